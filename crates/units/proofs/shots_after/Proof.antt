@@ -1,0 +1,18 @@
+use borrow.Author.Needs.{needs}
+use native.Mathlib.Numerals.{add-one}
+use Rattle.units.proofs.shots_after.Statement.{statement}
+use Rattle.units.proofs.shots_after.Tie as tie
+
+pub shots-after-spec : {M : Type 1} → statement M
+shots-after-spec =
+    tie.close
+    (tie.spec
+    (λ c κs. search needs)
+    (λ c. search needs)
+    (λ c. search needs)
+    (λ c. search needs)
+    (λ c. search needs)
+    (λ c. search needs)
+    (λ c κs. search needs)
+    (λ c. search needs)
+    (λ c. rw (add-one, c .steps-in .ensures .0, c .before .before .before .step-after .ensures)))

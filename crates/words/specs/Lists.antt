@@ -1,0 +1,25 @@
+-- Tests and counts over a list.
+use mathlib.Core.Bool.{Bool, true, false, _&&_}
+use mathlib.Core.List.{List, [], _∷_}
+use Prim.Native.Nat.{ℕ, _+_}
+use Rattle.words.specs.Choice.{if_then_else_}
+
+-- there is at least one
+abbrev pub some : {A : Type 0} → List A → Bool
+some [] = false
+some (x ∷ xs) = true
+
+-- every one passes the test
+abbrev pub every : {A : Type 0} → (A → Bool) → List A → Bool
+every test [] = true
+every test (x ∷ xs) = test x && every test xs
+
+-- how many pass the test
+abbrev pub count : {A : Type 0} → (A → Bool) → List A → ℕ
+count test [] = 0
+count test (x ∷ xs) = (if test x then 1 else 0) + count test xs
+
+-- the sum of a number of each
+abbrev pub total : {A : Type 0} → (A → ℕ) → List A → ℕ
+total number [] = 0
+total number (x ∷ xs) = number x + total number xs
