@@ -1,0 +1,1 @@
+-- What is promised of plans, as statements; the proofs stand in proofs/.

@@ -1,0 +1,43 @@
+// Sector plans: their ranges, their arcs in a revolution, the checks before measuring, and the normal plan.
+use units::Angle;
+
+mod active;
+mod arcs;
+mod checks;
+mod normal;
+mod ranges;
+
+pub use active::active_count;
+pub use arcs::arc_at;
+pub use checks::measure_error;
+pub use normal::normal_plan;
+pub use ranges::entry_in_range;
+pub use ranges::is_step;
+pub use ranges::plan_in_range;
+
+// One entry of a plan.
+pub struct Sector {
+    pub function: u16,
+    pub stop: Angle,
+}
+
+pub struct Plan {
+    pub sectors: [Sector; 8],
+}
+
+// What one active sector is in a revolution: its function, first and last direction, the number of its first shot, how many
+// shots it has and how many of them give points.
+pub struct Arc {
+    pub function: u16,
+    pub first: Angle,
+    pub last: Angle,
+    pub shot: u16,
+    pub shots: u16,
+    pub points: u16,
+}
+
+// The answer of the normal plan call: a number for no with a plan of zeros, or 0 with the normal plan.
+pub struct Normalised {
+    pub refusal: u16,
+    pub plan: Plan,
+}

@@ -1,0 +1,92 @@
+// The normal plan: neighbours of equal function joined.
+ghost use mathlib.Core.Path.{_≡_};
+ghost use lib.ListN.{getD};
+ghost use Rattle.plan.specs.Sectors.{unused};
+ghost use Rattle.plan.specs.NormalForm.{normalPlan, normalisedOf};
+ghost use mathlib.Core.List.{[]};
+ghost use Rattle.plan.specs.NormalForm.{filled};
+use crate::Normalised;
+use crate::Plan;
+use crate::Sector;
+use crate::active::rising;
+use crate::active::sectors_ok;
+use crate::active::whole_steps;
+use crate::ranges::is_step;
+use units::Angle;
+
+// The function of the entry at an index, 0 past the last.
+fn function_at(sectors: [Sector; 8], i: usize) -> u16
+    ensures { λ r. ⌜ r ≡ getD sectors i unused .function ⌝ }
+{
+    if i < 8 {
+        let s = sectors[i];
+        return s.function;
+    }
+    0
+}
+
+// A plan of zeros.
+fn zeros() -> Plan
+    ensures { λ r. ⌜ r ≡ filled [] ⌝ }
+{
+    Plan {
+        sectors: [Sector {
+            function: 0,
+            stop: Angle(0),
+        }; 8],
+    }
+}
+
+// The active sectors, without each one whose next neighbour has the same function: the later stop is kept.
+fn join(plan: Plan) -> Plan
+    ensures { λ r. ⌜ r ≡ normalPlan plan ⌝ }
+{
+    let sectors = plan.sectors;
+    let mut out = zeros().sectors;
+    let mut n: usize = 0;
+    let mut i: usize = 0;
+    while i < 8 {
+        let s = sectors[i];
+        let f = s.function;
+        if f == 0 {
+            return Plan { sectors: out };
+        }
+        i += 1;
+        let next = function_at(sectors, i);
+        if f != next {
+            out[n] = s;
+            n += 1;
+        }
+    }
+    Plan { sectors: out }
+}
+
+fn refused(refusal: u16) -> Normalised
+{
+    Normalised {
+        refusal,
+        plan: zeros(),
+    }
+}
+
+// The normal plan of a plan that is valid for the step; else the number for no.
+pub fn normal_plan(plan: Plan, step: Angle) -> Normalised
+    ensures { λ r. ⌜ r ≡ normalisedOf plan (step .0) ⌝ }
+{
+    if !is_step(step) {
+        return refused(9);
+    }
+    if !rising(plan) {
+        return refused(10);
+    }
+    if !sectors_ok(plan) {
+        return refused(10);
+    }
+    if !whole_steps(plan, step) {
+        return refused(11);
+    }
+    Normalised {
+        refusal: 0,
+        plan: join(plan),
+    }
+}
