@@ -1,2 +1,3 @@
 pub mod Tests
 pub mod Arrays
+pub mod Each

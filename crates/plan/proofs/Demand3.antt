@@ -1,0 +1,108 @@
+-- Demand 3, said of plans; and when the call answers 0.
+use mathlib.Core.Path.{_≡_, refl, sym, ap, _∙_}
+use mathlib.Core.Bool.{Bool, true, false, not, _&&_}
+use mathlib.Core.List.{List, [], _∷_, _++_}
+use Prim.Native.Nat.{ℕ, zero, suc, _+_, _-_, _≤_}
+use native.Mathlib.Omega.{arith}
+use lib.Dec.{T, eqb}
+use lib.ListN.{length, replicate, length-append, length-replicate}
+use borrow.Author.Tests.{ne-eqb}
+use Rattle.words.specs.Choice.{if_then_else_}
+use Rattle.words.specs.Lists.{some, every}
+use Rattle.words.proofs.Tests.{and-l, and-r, is-true}
+use Rattle.plan.specs.declared.Sector.{Sector}
+use Rattle.plan.specs.declared.Plan.{Plan}
+use Rattle.plan.specs.Sectors.{isStep, unused, active, activeOf}
+use Rattle.plan.specs.Validity.{isFunction, sectorOk, increases, multiples, Valid, ValidPlan}
+use Rattle.plan.specs.Shots.{runOf}
+use Rattle.plan.specs.NormalForm.{normal, filled, normalPlan, planRefusal}
+use Rattle.plan.specs.Demands.{NormalStands, Demand3, AnswersZero}
+use Rattle.plan.proofs.Grids.{Divides, divides}
+use Rattle.plan.proofs.NormalSectors.{Fine, done, more, fine-of, normal-valid, normal-normal, normal-length}
+use Rattle.plan.proofs.Runs.{normal-runs, same-normal, same-run, fewest}
+
+not-zero : (f : ℕ) → T (isFunction f) → eqb f 0 ≡ false
+not-zero zero h = absurd h
+not-zero (suc f) h = ne-eqb (suc f) 0 (omega arith)
+
+active-filled : (k : ℕ) {step low : ℕ} {ss : List Sector} → Fine step low ss → active (ss ++ replicate k unused) ≡ ss
+active-filled zero done = refl
+active-filled (suc k) done = refl
+active-filled k (more {s = s} f a g r) = rw (not-zero (s .function) f, active-filled k r)
+
+pub active-length : (ss : List Sector) → length (active ss) ≤ length ss
+active-length [] = omega arith
+active-length (s ∷ ss) = go (eqb (s .function) 0) (active-length ss)
+  where
+    go : (b : Bool) → length (active ss) ≤ length ss → length (if b then [] else s ∷ active ss) ≤ suc (length ss)
+    go true l = omega arith
+    go false l = omega arith
+
+module _ (step : ℕ) (p : Plan) (v : ValidPlan step p) where
+  -- the active sectors of the normal plan
+  normal-active : activeOf (normalPlan p) ≡ normal (activeOf p)
+  normal-active = active-filled (8 - length (normal (activeOf p))) (fine-of step (normal-valid step (activeOf p) (v .valid)))
+
+  valid-normal : ValidPlan step (normalPlan p)
+  valid-normal =
+      record {
+        eight = let e = v .eight in simp (length-append, length-replicate) (omega (arith, normal-length (activeOf p), active-length (p .sectors)));
+        valid = rw normal-active (normal-valid step (activeOf p) (v .valid));
+      }
+
+pub demand3 : Demand3
+demand3 step ok p v =
+    record {
+      alike =
+          λ q w. (
+            λ e. same-run step o a (activeOf q) (v .valid) (w .valid) (sym n ∙ ap activeOf e ∙ normal-active step q w),
+            λ e. ap filled (same-normal step o a (activeOf q) (v .valid) (w .valid) e),
+          );
+      valid = valid-normal step p v;
+      runs-so = rw n (normal-runs step o a (v .valid));
+      again = rw (n, normal-normal);
+      fewest = λ q w e. rw n (fewest step o a (activeOf q) (v .valid) (w .valid) e);
+    }
+  where
+    a : List Sector
+    a = activeOf p
+
+    o : Divides step
+    o = divides ok
+
+    n : activeOf (normalPlan p) ≡ normal (activeOf p)
+    n = normal-active step p v
+
+-- the tests of a refusal that is 0
+tests : (a b c : Bool) → _≡_ {A = ℕ} (if not a then 9 else if not b then 10 else if not c then 11 else 0) 0 → T a × T b × T c
+tests true true true e = (tt, tt, tt)
+tests true true false e = absurd (omega arith)
+tests true false c e = absurd (omega arith)
+tests false b c e = absurd (omega arith)
+
+pub answers-zero : AnswersZero
+unfolding planRefusal
+answers-zero step p eight =
+    (
+      λ e. (
+        let t = tests (isStep step) (some (activeOf p) && every sectorOk (activeOf p) && increases (activeOf p)) (multiples step (activeOf p)) e in
+        let u = t .1 in
+        let w = t .2 in
+        (
+          t .0,
+          record {
+            eight = eight;
+            valid = record { at-least-one = search (and-l, and-r); in-range = search (and-l, and-r); increasing = search (and-l, and-r); whole-steps = w };
+          },
+        )
+      ),
+      λ h. (
+        let v = h .1 .valid in
+        let a : isStep step ≡ true = is-true (h .0) in
+        let b : some (activeOf p) ≡ true = is-true (v .at-least-one) in
+        let c : every sectorOk (activeOf p) ≡ true = is-true (v .in-range) in
+        let d : increases (activeOf p) ≡ true = is-true (v .increasing) in
+        let e : multiples step (activeOf p) ≡ true = is-true (v .whole-steps) in
+        rw (a, b, c, d, e)
+      ),
+    )

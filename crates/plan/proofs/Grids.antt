@@ -1,0 +1,77 @@
+-- Directions on the grid of a step that divides the circle: the steps from one to another, and the shots of a sector between them.
+-- Each fact is shown once, over the step.
+use mathlib.Core.Path.{_≡_, refl, _∙_}
+use mathlib.Core.Logic.{_⊎_, inl, inr}
+use Prim.Native.Nat.{ℕ, zero, suc, _+_, _-_, _*_, _/_, _%_, _≤_, _<_, _∣_}
+use native.Mathlib.Nat.{dvd-add, dvd-sub, dvd-refl, dvd-zero, le-of-dvd, dvd-mod-iff, dvd-of-mod-eq-zero, div-mul-cancel, eq-of-mul-eq-mul-right}
+use native.Mathlib.Omega.{arith}
+use lib.Dec.{T, leb→le, eqb→eq}
+use Rattle.units.specs.Directions.{stepAfter, shotsTo}
+use Rattle.words.proofs.Tests.{and-l, and-r}
+use Rattle.plan.specs.Sectors.{isStep}
+
+-- what makes a step go round
+pub record Divides (step : ℕ) : Type 0 where
+  pub positive : 0 < step
+  pub circle : step ∣ 5760
+
+pub divides : {step : ℕ} → T (isStep step) → Divides step
+unfolding isStep
+divides {step} ok =
+    record {
+      positive = leb→le 1 step (search (and-l, and-r));
+      circle = dvd-of-mod-eq-zero step (eqb→eq (5760 % step) 0 (search (and-l, and-r)));
+    }
+
+-- a direction on the grid of the step
+pub record Grid (step d : ℕ) : Type 0 where
+  pub whole : step ∣ d
+  pub below : d < 5760
+
+-- the direction of the shot m steps after the one at d
+unfoldable pub on : ℕ → ℕ → ℕ → ℕ
+on step d zero = d
+on step d (suc m) = on step (stepAfter step d) m
+
+pub on-is : (step m d : ℕ) → d < 5760 → on step d m ≡ (d + m * step) % 5760
+unfolding on
+on-is step zero d h = omega arith
+on-is step (suc m) d h = on-is step m (stepAfter step d) (omega arith) ∙ omega arith
+
+pub on-suc : (step m d : ℕ) → d < 5760 → on step d (suc m) ≡ stepAfter step (on step d m)
+on-suc step m d h = on-is step (suc m) d h ∙ rw (on-is step m d h) (omega arith)
+
+pub zero-grid : (step : ℕ) → Grid step 0
+zero-grid step = record { whole = dvd-zero step; below = omega arith }
+
+module _ (step : ℕ) (v : Divides step) where
+  after-grid : {d : ℕ} → Grid step d → Grid step (stepAfter step d)
+  after-grid g =
+      record { whole = dvd-mod-iff step (v .circle) .1 (dvd-add step (g .whole) (dvd-refl step)); below = omega arith }
+
+  -- from the first shot of a sector to its last
+  width : {d e : ℕ} → Grid step d → Grid step e → (e + 5760 - d) % 5760 / step * step ≡ (e + 5760 - d) % 5760
+  width g h = div-mul-cancel step (dvd-mod-iff step (v .circle) .1 (dvd-sub step (dvd-add step (h .whole) (v .circle)) (g .whole)))
+
+  -- a sector ends at its stop
+  pub ends : {b e : ℕ} → Grid step b → Grid step e → on step (stepAfter step b) ((e + 5760 - stepAfter step b) % 5760 / step) ≡ e
+  ends {b} g h = on-is step _ (stepAfter step b) (omega arith) ∙ rw (width (after-grid g) h) (omega arith)
+
+  -- two directions on the grid are a step apart
+  apart : (a b : ℕ) → step ∣ a → step ∣ b → a < b → a + step ≤ b
+  apart a b g h l = omega (arith, le-of-dvd {n = b - a} (omega arith) (dvd-sub step h g))
+
+  -- how far a sector goes, after the stop before it
+  pub span : (b e : ℕ) → Grid step b → Grid step e → b < e → shotsTo step (stepAfter step b) e * step + b ≡ e
+  span b e g h l = omega (arith, width (after-grid g) h, apart b e (g .whole) (h .whole) l)
+
+  pub span-around : (b e : ℕ) → Grid step b → Grid step e → e ≤ b → shotsTo step (stepAfter step b) e * step + b ≡ e + 5760
+  span-around b e g h l = omega (arith, width (after-grid g) h, apart b 5760 (g .whole) (v .circle) (g .below))
+
+  -- the shots of two sectors are those of the one that joins them, where e lies between b and t around the circle
+  pub counts : (b e t : ℕ) → Grid step b → Grid step e → Grid step t → e < t → (b < e) ⊎ (t ≤ b)
+      → shotsTo step (stepAfter step b) e + shotsTo step (stepAfter step e) t ≡ shotsTo step (stepAfter step b) t
+  counts b e t gb ge gt l (inl k) =
+      eq-of-mul-eq-mul-right step (v .positive) _ _ (omega (arith, span b e gb ge k, span e t ge gt l, span b t gb gt (omega arith)))
+  counts b e t gb ge gt l (inr k) =
+      eq-of-mul-eq-mul-right step (v .positive) _ _ (omega (arith, span-around b e gb ge (omega arith), span e t ge gt l, span-around b t gb gt k))
