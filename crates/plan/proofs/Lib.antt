@@ -4,3 +4,4 @@ pub mod NormalSectors
 pub mod Runs
 pub mod Demand3
 pub mod Tiling
+pub mod Rounds
