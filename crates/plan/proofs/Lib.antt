@@ -5,3 +5,4 @@ pub mod Runs
 pub mod Demand3
 pub mod Tiling
 pub mod Rounds
+pub mod PlanRows
