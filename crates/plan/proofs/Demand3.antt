@@ -17,6 +17,7 @@ use Rattle.plan.specs.Validity.{isFunction, sectorOk, increases, multipl
 use Rattle.plan.specs.Shots.{runOf}
 use Rattle.plan.specs.NormalForm.{normal, filled, normalPlan, planRefusal}
 use Rattle.plan.specs.Demands.{NormalStands, Demand3, AnswersZero}
+use Rattle.plan.proofs.ArcSums.{active-length}
 use Rattle.plan.proofs.Grids.{Divides, divides}
 use Rattle.plan.proofs.NormalSectors.{Fine, done, more, fine-of, normal-valid, normal-normal, normal-length}
 use Rattle.plan.proofs.Runs.{normal-runs, same-normal, same-run, fewest}
@@ -29,14 +30,6 @@ active-filled : (k : ℕ) {step low : ℕ} {ss : List Sector} → Fine step low 
 active-filled zero done = refl
 active-filled (suc k) done = refl
 active-filled k (more {s = s} f a g r) = rw (not-zero (s .function) f, active-filled k r)
-
-pub active-length : (ss : List Sector) → length (active ss) ≤ length ss
-active-length [] = omega arith
-active-length (s ∷ ss) = go (eqb (s .function) 0) (active-length ss)
-  where
-    go : (b : Bool) → length (active ss) ≤ length ss → length (if b then [] else s ∷ active ss) ≤ suc (length ss)
-    go true l = omega arith
-    go false l = omega arith
 
 module _ (step : ℕ) (p : Plan) (v : ValidPlan step p) where
   -- the active sectors of the normal plan
@@ -82,27 +75,25 @@ tests false b c e = absurd (omega arith)
 
 pub answers-zero : AnswersZero
 unfolding planRefusal
-answers-zero step p eight =
-    (
-      λ e. (
-        let t = tests (isStep step) (some (activeOf p) && every sectorOk (activeOf p) && increases (activeOf p)) (multiples step (activeOf p)) e in
-        let u = t .1 in
-        let w = t .2 in
-        (
-          t .0,
-          record {
-            eight = eight;
-            valid = record { at-least-one = search (and-l, and-r); in-range = search (and-l, and-r); increasing = search (and-l, and-r); whole-steps = w };
-          },
-        )
+answers-zero step p eight = (
+  λ e. (
+      let t = tests (isStep step) (some (activeOf p) && every sectorOk (activeOf p) && increases (activeOf p)) (multiples step (activeOf p)) e in
+      let u = t .1 in
+      let w = t .2 in (
+        t .0,
+        record {
+          eight = eight;
+          valid = record { at-least-one = search (and-l, and-r); in-range = search (and-l, and-r); increasing = search (and-l, and-r); whole-steps = w };
+        },
+      )
       ),
-      λ h. (
-        let v = h .1 .valid in
-        let a : isStep step ≡ true = is-true (h .0) in
-        let b : some (activeOf p) ≡ true = is-true (v .at-least-one) in
-        let c : every sectorOk (activeOf p) ≡ true = is-true (v .in-range) in
-        let d : increases (activeOf p) ≡ true = is-true (v .increasing) in
-        let e : multiples step (activeOf p) ≡ true = is-true (v .whole-steps) in
-        rw (a, b, c, d, e)
+  λ h. (
+      let v = h .1 .valid in
+      let a : isStep step ≡ true = is-true (h .0) in
+      let b : some (activeOf p) ≡ true = is-true (v .at-least-one) in
+      let c : every sectorOk (activeOf p) ≡ true = is-true (v .in-range) in
+      let d : increases (activeOf p) ≡ true = is-true (v .increasing) in
+      let e : multiples step (activeOf p) ≡ true = is-true (v .whole-steps) in
+      rw (a, b, c, d, e)
       ),
-    )
+)

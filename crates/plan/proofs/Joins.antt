@@ -1,4 +1,4 @@
--- How `joined` comes about, as a view to match on, and what it absorbs.
+-- A sector in front of others, by the two ways that `joined` goes, so that a law on it has two clauses.
 use mathlib.Core.Path.{_≡_, refl, _∙_}
 use mathlib.Core.Bool.{Bool, true, false}
 use mathlib.Core.List.{List, [], _∷_}
@@ -8,7 +8,7 @@ use Rattle.words.specs.Choice.{if_then_else_}
 use Rattle.plan.specs.declared.Sector.{Sector}
 use Rattle.plan.specs.NormalForm.{joined}
 
--- `joined s ss` is `r`: the two ways that it can come about
+-- the third list is `joined` of the sector and the second: the sector stands before them, or is lost to the first of them
 pub data Join (s : Sector) : List Sector → List Sector → Type 0 where
   before : {ss : List Sector} → Join s ss (s ∷ ss)
   onto : {t : Sector} {ts : List Sector} → s .function ≡ t .function → Join s (t ∷ ts) (t ∷ ts)
@@ -22,12 +22,12 @@ join-view s (t ∷ ts) = go (eqb (s .function) (t .function)) refl
     go false q = before
 
 -- a sector of the function that comes next is lost
-joins : (r s : Sector) (ss : List Sector) → r .function ≡ s .function → joined r (s ∷ ss) ≡ s ∷ ss
-joins r s ss e = rw (eq-eqb (r .function) (s .function) e)
+loses : (r s : Sector) (ss : List Sector) → r .function ≡ s .function → joined r (s ∷ ss) ≡ s ∷ ss
+loses r s ss e = rw (eq-eqb (r .function) (s .function) e)
 
 absorbs : (r s : Sector) {ss ts : List Sector} → Join s ss ts → r .function ≡ s .function → joined r ts ≡ ts
-absorbs r s before e = joins r s _ e
-absorbs r s (onto q) e = joins r _ _ (e ∙ q)
+absorbs r s before e = loses r s _ e
+absorbs r s (onto q) e = loses r _ _ (e ∙ q)
 
 pub absorb : (r s : Sector) (ss : List Sector) → r .function ≡ s .function → joined r (joined s ss) ≡ joined s ss
 absorb r s ss e = absorbs r s (join-view s ss) e

@@ -1,3 +1,4 @@
+-- The theorems
 pub mod Joins
 pub mod Grids
 pub mod NormalSectors
@@ -6,3 +7,8 @@ pub mod Demand3
 pub mod Tiling
 pub mod Rounds
 pub mod PlanRows
+-- The functions
+pub mod Walk
+pub mod ArcSums
+pub mod Joining
+pub mod Answers

@@ -79,9 +79,11 @@ module _ (step : ℕ) where
       ranges : {low : ℕ} {ss : List Sector} → Fine step low ss → T (every sectorOk ss)
       ranges done = tt
       ranges (more {s = s} f a g r) = search (and-both, le→leb (stopOf s) 5759 (omega arith), ranges r)
+
       rising : {low : ℕ} {ss : List Sector} → Fine step low ss → T (increases ss)
       rising done = tt
       rising (more f a g r) = fine-increases r
+
       wholes : {low : ℕ} {ss : List Sector} → Fine step low ss → T (multiples step ss)
       wholes done = tt
       wholes (more {s = s} f a g r) = search (and-both, eq-holds (stopOf s % step) 0 (mod-eq-zero-of-dvd step (g .whole)), wholes r)

@@ -65,11 +65,11 @@ module _ (step : ℕ) (v : Divides step) where
   swept-between P b s l h =
       each-from P noShot (swept step b s)
       (λ i k. (
-        let n = shotsOf step b s in
-        let j : i < n = rw (shots-length step n (stepAfter step b) (s .function)) at k in
-        let w = reach i n j in
-        let e : (stepAfter step b + i * step) % 5760 ≡ (b + suc i * step) % 5760 = rw suc-mul (omega arith) in
-        rw (shot-at step n i (stepAfter step b) (s .function) (omega arith) j) (h _ (suc i * step) (w .0) (w .1) e)
+      let n = shotsOf step b s in
+      let j : i < n = rw (shots-length step n (stepAfter step b) (s .function)) at k in
+      let w = reach i n j in
+      let e : (stepAfter step b + i * step) % 5760 ≡ (b + suc i * step) % 5760 = rw suc-mul (omega arith) in
+      rw (shot-at step n i (stepAfter step b) (s .function) (omega arith) j) (h _ (suc i * step) (w .0) (w .1) e)
       ))
 
   -- behind sector 0, each shot lies past the stop before, and has the function towards it
@@ -80,9 +80,9 @@ module _ (step : ℕ) (v : Divides step) where
       each-append
       (swept-between _ b s (g .below)
       (λ d far w k e. (
-        let z = span step v b (stopOf s) g h a in
-        let p = v .positive in
-        (omega arith, rw (le-leb d (stopOf s) (omega arith)))
+      let z = span step v b (stopOf s) g h a in
+      let p = v .positive in
+      (omega arith, rw (le-leb d (stopOf s) (omega arith)))
       )))
       (each-map (λ x h. (omega arith, h .1 ∙ rw (lt-leb (x .direction) (stopOf s) (h .0)))) (rest-towards f₀ h r))
 
@@ -148,7 +148,7 @@ module _ (step : ℕ) (v : Divides step) where
     shot-is k l =
         let d = direction-at k l in
         let f : getD (run step ss) k noShot .function ≡ functionOf (directionOf step k ss) ss =
-          function-at k l ∙ ap (λ (x : ℕ). functionOf x ss) d in
+        function-at k l ∙ ap (λ (x : ℕ). functionOf x ss) d in
         λ i. record { direction = d i; function = f i }
 
 pub revolution : Revolution

@@ -18,12 +18,8 @@ use Rattle.plan.specs.Sectors.{stopOf, activeOf}
 use Rattle.plan.specs.Shots.{Shot, lastStop, shotsOf, arcOf, arcsFrom, arcs, noArc, shots, sweep, sweeps, run, runOf, shotsWith}
 use Rattle.plan.specs.Checks.{isLit, litShots}
 use Rattle.plan.specs.Demands.{noShot, ArcIn, Tiles, Tiling, Counts, Counting}
-use Rattle.plan.proofs.Grids.{on, on-is}
+use Rattle.plan.proofs.ArcSums.{arcs-length}
 use Rattle.plan.proofs.Runs.{shots-length}
-
-pub arcs-length : (step b k : ℕ) (ss : List Sector) → length (arcsFrom step b k ss) ≡ length ss
-arcs-length step b k [] = refl
-arcs-length step b k (s ∷ ss) = ap suc (arcs-length step (stopOf s) (k + shotsOf step b s) ss)
 
 -- shot k of a sector lies k steps past its first direction
 pub shot-at : (step n k d f : ℕ) → d < 5760 → k < n → getD (shots step f d n) k noShot ≡ record { direction = (d + k * step) % 5760; function = f }
@@ -85,16 +81,16 @@ module _ (step : ℕ) (p : Plan) where
           let a = arcOf step (r .stop) (r .shot) (r .whose) in
           let n : length (r .front) ≡ r .shot = omega (arith, r .place-of) in
           let stretch : take (a .shots) (drop (a .shot) (runOf step p)) ≡ sweep step a =
-            rw (r .parts, drop-at (r .front) (sweep step a ++ r .back) (r .shot) n)
-            (take-at (sweep step a) (r .back) (a .shots) (shots-length step (a .shots) (a .first .0) (a .function))) in
+          rw (r .parts, drop-at (r .front) (sweep step a ++ r .back) (r .shot) n)
+          (take-at (sweep step a) (r .back) (a .shots) (shots-length step (a .shots) (a .first .0) (a .function))) in
           record {
             first-shot = r .sum ∙ zero-add _;
             stretch = stretch;
             shot = λ i l.
-              sym (getD-drop (r .shot) (runOf step p) i noShot)
-              ∙ sym (getD-take (a .shots) (drop (r .shot) (runOf step p)) i noShot l)
-              ∙ ap (λ (x : List Shot). getD x i noShot) stretch
-              ∙ shot-at step (a .shots) i (a .first .0) (a .function) (omega arith) l;
+                sym (getD-drop (r .shot) (runOf step p) i noShot)
+                ∙ sym (getD-take (a .shots) (drop (r .shot) (runOf step p)) i noShot l)
+                ∙ ap (λ (x : List Shot). getD x i noShot) stretch
+                ∙ shot-at step (a .shots) i (a .first .0) (a .function) (omega arith) l;
           }
 
 pub tiling : Tiling

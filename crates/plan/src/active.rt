@@ -24,7 +24,7 @@ pub fn active_count(plan: Plan) -> usize
         }
         i += 1;
     }
-    8
+    i
 }
 
 // The stop of the last active sector, 0 where there is none.
@@ -74,7 +74,7 @@ pub(crate) fn rising(plan: Plan) -> bool
 }
 
 // A function of 1, 3 or 4, and a stop of at most 5759.
-fn sector_ok(sector: Sector) -> bool
+pub(crate) fn sector_ok(sector: Sector) -> bool
     ensures { λ r. ⌜ r ≡ sectorOk sector ⌝ }
 {
     let f = sector.function;

@@ -1,11 +1,23 @@
 // What each active sector is in a revolution.
 ghost use mathlib.Core.Path.{_≡_};
+ghost use lib.Dec.{eqb};
+ghost use Rattle.words.specs.Choice.{if_then_else_};
 ghost use Rattle.plan.specs.Shots.{arcOf, noArc, arcAt};
 use crate::Arc;
 use crate::Plan;
 use crate::Sector;
 use crate::active::last_stop;
 use units::Angle;
+
+// Only function 3 gives points.
+fn points_of(function: u16, shots: u16) -> u16
+    ensures { λ r. ⌜ r ≡ (if eqb function 3 then shots else 0) ⌝ }
+{
+    if function == 3 {
+        return shots;
+    }
+    0
+}
 
 // The arc of a sector, from the stop before it and the number of its first shot.
 fn arc_of(sector: Sector, before: Angle, step: Angle, shot: u16) -> Arc
@@ -15,23 +27,14 @@ fn arc_of(sector: Sector, before: Angle, step: Angle, shot: u16) -> Arc
     let last = sector.stop;
     let first = units::step_after(before, step);
     let shots = units::shots_after(before, last, step);
-    if function == 3 {
-        return Arc {
-            function,
-            first,
-            last,
-            shot,
-            shots,
-            points: shots,
-        };
-    }
+    let points = points_of(function, shots);
     Arc {
         function,
         first,
         last,
         shot,
         shots,
-        points: 0,
+        points,
     }
 }
 

@@ -1,10 +1,9 @@
 // The normal plan: neighbours of equal function joined.
 ghost use mathlib.Core.Path.{_≡_};
+ghost use mathlib.Core.List.{[]};
 ghost use lib.ListN.{getD};
 ghost use Rattle.plan.specs.Sectors.{unused};
-ghost use Rattle.plan.specs.NormalForm.{normalPlan, normalisedOf};
-ghost use mathlib.Core.List.{[]};
-ghost use Rattle.plan.specs.NormalForm.{filled};
+ghost use Rattle.plan.specs.NormalForm.{filled, normalPlan, planRefusal, normalisedOf};
 use crate::Normalised;
 use crate::Plan;
 use crate::Sector;
@@ -61,32 +60,38 @@ fn join(plan: Plan) -> Plan
     Plan { sectors: out }
 }
 
-fn refused(refusal: u16) -> Normalised
+// The first number for no that a plan and a step call for, 0 for none.
+fn plan_refusal(plan: Plan, step: Angle) -> u16
+    ensures { λ r. ⌜ r ≡ planRefusal plan (step .0) ⌝ }
 {
-    Normalised {
-        refusal,
-        plan: zeros(),
+    if !is_step(step) {
+        return 9;
     }
+    if !sectors_ok(plan) {
+        return 10;
+    }
+    if !rising(plan) {
+        return 10;
+    }
+    if !whole_steps(plan, step) {
+        return 11;
+    }
+    0
 }
 
 // The normal plan of a plan that is valid for the step; else the number for no.
 pub fn normal_plan(plan: Plan, step: Angle) -> Normalised
     ensures { λ r. ⌜ r ≡ normalisedOf plan (step .0) ⌝ }
 {
-    if !is_step(step) {
-        return refused(9);
-    }
-    if !rising(plan) {
-        return refused(10);
-    }
-    if !sectors_ok(plan) {
-        return refused(10);
-    }
-    if !whole_steps(plan, step) {
-        return refused(11);
+    let refusal = plan_refusal(plan, step);
+    if refusal == 0 {
+        return Normalised {
+            refusal,
+            plan: join(plan),
+        };
     }
     Normalised {
-        refusal: 0,
-        plan: join(plan),
+        refusal,
+        plan: zeros(),
     }
 }

@@ -3,6 +3,7 @@ ghost use mathlib.Core.Path.{_≡_};
 ghost use Rattle.plan.specs.Sectors.{isStep, entryInRange, planInRange};
 use crate::Plan;
 use crate::Sector;
+use crate::active::sector_ok;
 use units::Angle;
 
 // One of the 23 steps.
@@ -10,7 +11,7 @@ pub fn is_step(step: Angle) -> bool
     ensures { λ r. ⌜ r ≡ isStep (step .0) ⌝ }
 {
     let n = step.0;
-    if n == 0 {
+    if n < 1 {
         return false;
     }
     if 64 < n {
@@ -25,13 +26,10 @@ pub fn entry_in_range(entry: Sector) -> bool
 {
     let f = entry.function;
     let stop = entry.stop.0;
-    if 4 < f {
-        return false;
+    if f == 0 {
+        return stop <= 5759;
     }
-    if f == 2 {
-        return false;
-    }
-    stop <= 5759
+    sector_ok(entry)
 }
 
 // All eight entries are in their ranges.

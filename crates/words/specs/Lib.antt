@@ -1,3 +1,5 @@
 pub mod Choice
 pub mod Lists
+pub mod Bits
+pub mod Buffers
 pub mod Rows
