@@ -70,15 +70,15 @@ module _ (l out : List Sector) (n i : ℕ) (j : Joining l out n i) where
       ap (λ (a : List Sector). record { sectors = a }) (j .out-is)
       ∙ ap filled (sym (append-nil (j .kept)) ∙ ap (λ (a : List Sector). j .kept ++ normal a) (sym e) ∙ j .rest)
 
-  module _ (h : i < 8) (f : getD l i unused .function ≡ 0 → ⊥) (x : ℕ) (p : x ≡ getD l (i + 1) unused .function) where
+  module _ (h : i < 8) (f : getD l i unused .function ≡ 0 → ⊥) (t : Sector) (p : t ≡ getD l (i + 1) unused) where
     -- what the next entry's function tells of the sectors left
-    leading : x ≡ leads (active (drop (i + 1) l))
-    leading = p ∙ sym (leads-at l (i + 1))
+    leading : t .function ≡ leads (active (drop (i + 1) l))
+    leading = rw p (sym (leads-at l (i + 1)))
 
     goes-on : (r : List Sector) → normal (getD l i unused ∷ active (drop (i + 1) l)) ≡ r → j .kept ++ r ≡ normal (active l)
     goes-on r e = ap (λ (a : List Sector). j .kept ++ a) (sym (ap normal (at-more l i (j .eight) h f) ∙ e)) ∙ j .rest
 
-    pub skips : getD l i unused .function ≡ x → Joining l out n (i + 1)
+    pub skips : getD l i unused .function ≡ t .function → Joining l out n (i + 1)
     skips e =
         record {
           eight = j .eight;
@@ -89,7 +89,7 @@ module _ (l out : List Sector) (n i : ℕ) (j : Joining l out n i) where
           rest = goes-on _ (skip (getD l i unused) (active (drop (i + 1) l)) f (e ∙ leading));
         }
 
-    pub keeps : (getD l i unused .function ≡ x → ⊥) → Joining l (set out n (getD l i unused)) (n + 1) (i + 1)
+    pub keeps : (getD l i unused .function ≡ t .function → ⊥) → Joining l (set out n (getD l i unused)) (n + 1) (i + 1)
     keeps e =
         record {
           eight = j .eight;

@@ -1,17 +1,19 @@
 -- The active sectors as a loop over the eight entries meets them: what is left of them at an index, and for each loop its exits and its turn.
 -- `whole` is what the whole list gives, and stays as it is.
-use mathlib.Core.Path.{_≡_, _∙_}
+use mathlib.Core.Path.{_≡_, sym, ap, _∙_}
 use mathlib.Core.Bool.{Bool, true, false, not, _&&_}
 use mathlib.Core.List.{List, [], _∷_}
 use Prim.Native.Nat.{ℕ, suc, _+_, _-_, _≤_, _<_}
 use native.Mathlib.Omega.{arith}
 use lib.Dec.{ltb}
-use lib.ListN.{length, getD, drop, drop-of-length-le, List·getD-eq-default}
+use lib.ListN.{length, getD, drop, set, drop-of-length-le, List·getD-eq-default}
+use lib.Seq.{set-out}
 use borrow.Author.Tests.{eq-eqb, ne-eqb}
 use Rattle.words.specs.Lists.{some, every}
 use Rattle.words.proofs.Tests.{said-no, said-yes}
 use Rattle.words.proofs.Arrays.{from-here}
 use Rattle.plan.specs.declared.Sector.{Sector}
+use Rattle.plan.specs.declared.Plan.{Plan}
 use Rattle.plan.specs.declared.Arc.{Arc}
 use Rattle.plan.specs.Sectors.{unused, stopOf, active}
 use Rattle.plan.specs.Validity.{increasesFrom, increases}
@@ -32,9 +34,12 @@ module _ (l : List Sector) (i : ℕ) (len : length l ≡ 8) where
   past : 8 ≤ i → drop i l ≡ []
   past h = drop-of-length-le l {i = i} (omega arith)
 
-  -- past the last entry the function is 0
-  pub past-last : 8 ≤ i → 0 ≡ getD l i unused .function
-  past-last h = rw (List·getD-eq-default l unused {n = i} (omega arith))
+  -- past the last entry there is 0/0, and nothing to set
+  pub past-last : 8 ≤ i → unused ≡ getD l i unused
+  past-last h = sym (List·getD-eq-default l unused {n = i} (omega arith))
+
+  pub no-place : 8 ≤ i → (s : Sector) → _≡_ {A = Plan} (record { sectors = l }) (record { sectors = set l i s })
+  no-place h s = ap (λ (x : List Sector). record { sectors = x }) (sym (set-out l i s (omega arith)))
 
   pub at-zero : i < 8 → getD l i unused .function ≡ 0 → active (drop i l) ≡ []
   at-zero h e = rw (here h, eq-eqb _ _ e)

@@ -3,6 +3,7 @@ use mathlib.Core.Bool.{Bool, _&&_, _||_}
 use mathlib.Core.List.{List, [], _∷_}
 use Prim.Native.Nat.{ℕ, _%_}
 use lib.Dec.{leb, eqb}
+use lib.ListN.{getD, set}
 use Rattle.words.specs.Choice.{if_then_else_}
 use Rattle.words.specs.Lists.{every}
 use Rattle.plan.specs.declared.Sector.{Sector}
@@ -30,6 +31,14 @@ entryInRange s = (eqb (s .function) 0 || eqb (s .function) 1 || eqb (s .function
 -- all of a plan's entries are in their ranges, the unused ones included
 unfoldable pub planInRange : Plan → Bool
 planInRange p = every entryInRange (p .sectors)
+
+-- the entry at a place, 0/0 past the last
+abbrev pub entryAt : Plan → ℕ → Sector
+entryAt p place = getD (p .sectors) place unused
+
+-- the plan with the entry at a place set
+abbrev pub withEntry : Plan → ℕ → Sector → Plan
+withEntry p place entry = record { sectors = set (p .sectors) place entry }
 
 -- "Active sectors are those before the first function 0."
 abbrev pub active : List Sector → List Sector

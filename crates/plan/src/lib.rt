@@ -4,12 +4,15 @@ use units::Angle;
 mod active;
 mod arcs;
 mod checks;
+mod entries;
 mod normal;
 mod ranges;
 
 pub use active::active_count;
 pub use arcs::arc_at;
 pub use checks::measure_error;
+pub use entries::entry_at;
+pub use entries::with_entry;
 pub use normal::normal_plan;
 pub use ranges::entry_in_range;
 pub use ranges::is_step;

@@ -1,8 +1,6 @@
 // The normal plan: neighbours of equal function joined.
 ghost use mathlib.Core.Path.{_≡_};
 ghost use mathlib.Core.List.{[]};
-ghost use lib.ListN.{getD};
-ghost use Rattle.plan.specs.Sectors.{unused};
 ghost use Rattle.plan.specs.NormalForm.{filled, normalPlan, planRefusal, normalisedOf};
 use crate::Normalised;
 use crate::Plan;
@@ -10,19 +8,9 @@ use crate::Sector;
 use crate::active::rising;
 use crate::active::sectors_ok;
 use crate::active::whole_steps;
+use crate::entries::entry_at;
 use crate::ranges::is_step;
 use units::Angle;
-
-// The function of the entry at an index, 0 past the last.
-fn function_at(sectors: [Sector; 8], i: usize) -> u16
-    ensures { λ r. ⌜ r ≡ getD sectors i unused .function ⌝ }
-{
-    if i < 8 {
-        let s = sectors[i];
-        return s.function;
-    }
-    0
-}
 
 // A plan of zeros.
 fn zeros() -> Plan
@@ -51,8 +39,8 @@ fn join(plan: Plan) -> Plan
             return Plan { sectors: out };
         }
         i += 1;
-        let next = function_at(sectors, i);
-        if f != next {
+        let next = entry_at(plan, i);
+        if f != next.function {
             out[n] = s;
             n += 1;
         }

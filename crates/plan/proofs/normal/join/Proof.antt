@@ -10,14 +10,14 @@ use Rattle.plan.proofs.normal.join.Statement.{statement}
 use Rattle.plan.proofs.normal.join.Tie as tie
 
 abbrev Inv-loop : tie.InvT-loop
-Inv-loop sectors out₀ n₀ i₀ out n i = Joining sectors out n i
+Inv-loop plan sectors out₀ n₀ i₀ out n i = Joining sectors out n i
 
 pub join-spec : {M : Type 1} → statement M
 join-spec =
     tie.close
     (tie.spec
     Inv-loop
-    (λ sectors out₀ n₀ i₀ out n i. 8 - i)
+    (λ plan sectors out₀ n₀ i₀ out n i. 8 - i)
     (λ c κs. search needs)
     (λ c. record { eight = search (long, needs); behind = omega arith; kept = []; count = refl; out-is = search needs; rest = refl })
     (λ c. search needs)
