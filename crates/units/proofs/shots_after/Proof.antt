@@ -1,5 +1,5 @@
 use borrow.Author.Needs.{needs}
-use native.Mathlib.Numerals.{add-one}
+use Rattle.units.proofs.Directions.{one-more}
 use Rattle.units.proofs.shots_after.Statement.{statement}
 use Rattle.units.proofs.shots_after.Tie as tie
 
@@ -15,4 +15,4 @@ shots-after-spec =
     (λ c. search needs)
     (λ c κs. search needs)
     (λ c. search needs)
-    (λ c. rw (add-one, c .steps-in .ensures .0, c .before .before .before .step-after .ensures)))
+    (λ c. search one-more))

@@ -1,13 +1,13 @@
-use borrow.Author.Needs.{needs}
+use Prim.Native.Nat.{ℕ, _*_, _^_, _<_}
 use native.Mathlib.Nat.{mul-le-mul-left, mul-lt-mul-of-pos-right, le-of-lt, lt-of-le-of-lt}
 use lib.Dec.{lit<}
+use borrow.Author.Needs.{needs}
 use Rattle.words.proofs.product.Statement.{statement}
 use Rattle.words.proofs.product.Tie as tie
 
--- the product of two 16-bit words fits 32 bits
-fits : tie.Need-mul-result
-fits c =
-    record { fits = lt-of-le-of-lt (mul-le-mul-left _ (le-of-lt (c .fits .b .fits))) (mul-lt-mul-of-pos-right (c .fits .a .fits) (lit< tt)) }
+-- the product of two words of 16 bits fits 32
+fits : (a b : ℕ) → a < 2 ^ 16 → b < 2 ^ 16 → a * b < 2 ^ 32
+fits a b h k = lt-of-le-of-lt (mul-le-mul-left a (le-of-lt k)) (mul-lt-mul-of-pos-right h (lit< tt))
 
 pub product-spec : {M : Type 1} → statement M
-product-spec = tie.close (tie.spec fits (λ c. search needs))
+product-spec = tie.close (tie.spec (λ c. record { fits = fits _ _ (search needs) (search needs) }) (λ c. search needs))
