@@ -7,6 +7,7 @@ pub mod Demand3
 pub mod Tiling
 pub mod Rounds
 pub mod PlanRows
+pub mod EntrySet
 -- The functions
 pub mod Walk
 pub mod ArcSums

@@ -1,3 +1,4 @@
 pub mod Tests
 pub mod Arrays
 pub mod Each
+pub mod Overs

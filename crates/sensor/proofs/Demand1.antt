@@ -1,0 +1,156 @@
+-- Demand 1 for requests: a refusal changes nothing, each is given exactly then, and ranges are kept.
+use mathlib.Core.Path.{_≡_, refl, subst, _∙_}
+use mathlib.Core.Bool.{Bool, true, false, not, _&&_}
+use mathlib.Core.List.{List, [], _∷_}
+use Prim.Native.Nat.{ℕ, zero, suc, _≤_, _<_}
+use native.Mathlib.Omega.{arith}
+use lib.Dec.{T, ltb, eqb}
+use lib.ListN.{length, getD}
+use borrow.Author.Tests.{ne-eqb, eqb-true, ltb-true}
+use Rattle.words.specs.Choice.{if_then_else_}
+use Rattle.words.specs.Lists.{some, every, areWords, firstOf}
+use Rattle.words.proofs.Tests.{and-l, and-r, is-true}
+use Rattle.state.specs.declared.State.{State}
+use Rattle.state.specs.declared.Mode.{Mode}
+use Rattle.state.specs.declared.Mode.the-variants.{Idle, Rotate, Measure}
+use Rattle.state.specs.Ranges.{inRange}
+use Rattle.state.specs.Replies.{Outcome, Result, refused, delivered, Unchanged}
+use Rattle.state.proofs.Delivery.{refused-unchanged, done, delivered-by, delivered-number}
+use Rattle.state.proofs.Parts.{Parts, parts, whole}
+use Rattle.services.specs.Answers.{answer}
+use Rattle.services.proofs.Kept.{signal-kept, config-kept, function-kept, profile-kept, cancel-kept, idle-kept, reset-kept, rotate-kept, measure-kept}
+use Rattle.sensor.specs.declared.Service.{Service}
+use Rattle.sensor.specs.declared.Service.the-variants.{GetStatus, GetSignal, SetSignal, SetConfig, GetConfig, SetFunction, GetFunction, GetProfile, CancelProfile, DoReset, TransIdle, TransRotate, TransMeasure, Unknown}
+use Rattle.sensor.specs.Table.{rowOf, services, named, serviceOf, allowed, outcomeOf}
+use Rattle.sensor.specs.Requests.{isListed, serviceRefusal, requestRefusal, outcome, requested}
+use Rattle.sensor.specs.Demands.{RefusalsChangeNothing, numbersForNo, RefusalsExactly, RangesKept}
+
+-- what holds of every refusal, and of the outcome of a request that none of 1 to 5 refuses, holds of the request
+pub requested-by : (P : Result → Type 0) (s : State) (ws : List ℕ) (room : ℕ) → ((n : ℕ) → P (refused s n)) → (requestRefusal s ws ≡ 0 → P (done (outcome s ws)))
+    → P (requested s ws room)
+unfolding requested
+requested-by P s ws room h k = go (eqb (requestRefusal s ws) 0) refl
+  where
+    go : (b : Bool) → eqb (requestRefusal s ws) 0 ≡ b → P (if b then delivered s (outcome s ws) room else refused s (requestRefusal s ws))
+    go true e = delivered-by P s (outcome s ws) room (h 6) (k (eqb-true _ 0 e))
+    go false e = h (requestRefusal s ws)
+
+pub refusals-change-nothing : RefusalsChangeNothing
+refusals-change-nothing s ws d =
+    requested-by (λ x. (x .reply .refusal ≡ 0 → ⊥) → Unchanged s d x) s ws (length d) (λ n _. refused-unchanged s n d) (λ _ n. absurd (n refl))
+
+-- a code is in the table where one of the services has it
+listed : (code : ℕ) (vs : List Service) → T (every isListed vs) → not (isListed (named code vs)) ≡ every (λ v. not (eqb code (rowOf v .code))) vs
+listed code [] h = refl
+listed code (v ∷ vs) h = go (eqb code (rowOf v .code)) (listed code vs (and-r (isListed v) (every isListed vs) h))
+  where
+    yes : isListed v ≡ true
+    yes = is-true (and-l (isListed v) (every isListed vs) h)
+
+    go : (b : Bool) → not (isListed (named code vs)) ≡ every (λ v. not (eqb code (rowOf v .code))) vs
+        → not (isListed (if b then v else named code vs)) ≡ (not b && every (λ v. not (eqb code (rowOf v .code))) vs)
+    go true e = rw yes
+    go false e = e
+
+no-word : (ws : List ℕ) → eqb (length ws) 0 ≡ not (some ws)
+no-word [] = refl
+no-word (w ∷ ws) = ne-eqb (suc (length ws)) 0 (λ e. omega arith)
+
+code-listed : (code : ℕ) → not (isListed (serviceOf code)) ≡ every (λ v. not (eqb code (rowOf v .code))) services
+unfolding serviceOf
+code-listed code = listed code services tt
+
+-- the tests one after another, as the definition has them and as the table has them
+in-order : (a b c d e f : Bool)
+    → (if eqb (if a then 1 else if b then 2 else if c then 3 else if d then 4 else if e then 5 else 0) 0
+    then (if f then 6 else 0)
+    else (if a then 1 else if b then 2 else if c then 3 else if d then 4 else if e then 5 else 0))
+    ≡ firstOf 1 (a ∷ b ∷ c ∷ d ∷ e ∷ f ∷ [])
+in-order true b c d e f = refl
+in-order false true c d e f = refl
+in-order false false true d e f = refl
+in-order false false false true e f = refl
+in-order false false false false true f = refl
+in-order false false false false false true = refl
+in-order false false false false false false = refl
+
+module _ (s : State) (ws : List ℕ) where
+  refusal-is : requestRefusal s ws
+      ≡ (if not (inRange s) then 1
+      else if not (some ws) then 2
+      else if every (λ v. not (eqb (getD ws 0 0) (rowOf v .code))) services then 3
+      else if not (eqb (length ws) (rowOf (serviceOf (getD ws 0 0)) .wordsIn)) then 4
+      else if not (allowed (serviceOf (getD ws 0 0)) (s .mode)) then 5 else 0)
+  unfolding requestRefusal serviceRefusal
+  refusal-is = rw (no-word ws, code-listed (getD ws 0 0))
+
+  number-is : (room : ℕ) → requested s ws room .reply .refusal
+      ≡ (if eqb (requestRefusal s ws) 0 then (if ltb room (length (outcome s ws .words)) then 6 else 0) else requestRefusal s ws)
+  unfolding requested
+  number-is room = go (eqb (requestRefusal s ws) 0)
+    where
+      go : (b : Bool)
+          → (if b then delivered s (outcome s ws) room else refused s (requestRefusal s ws)) .reply .refusal
+          ≡ (if b then (if ltb room (length (outcome s ws .words)) then 6 else 0) else requestRefusal s ws)
+      go true = delivered-number s (outcome s ws) room
+      go false = refl
+
+pub refusals-exactly : RefusalsExactly
+refusals-exactly s ws room =
+    number-is s ws room ∙
+    rw (refusal-is s ws)
+    (in-order (not (inRange s)) (not (some ws)) (every (λ v. not (eqb (getD ws 0 0) (rowOf v .code))) services)
+    (not (eqb (length ws) (rowOf (serviceOf (getD ws 0 0)) .wordsIn))) (not (allowed (serviceOf (getD ws 0 0)) (s .mode)))
+    (ltb room (length (outcome s ws .words))))
+
+-- a request that none of 1 to 5 refuses is in a mode that is listed
+passes : (a b c d e : Bool)
+    → _≡_ {A = ℕ} (if not a then 1 else if b then 2 else if not c then 3 else if not d then 4 else if not e then 5 else 0) 0 → T e
+passes true false true true true q = tt
+passes true false true true false q = absurd (omega arith)
+passes true false true false e q = absurd (omega arith)
+passes true false false d e q = absurd (omega arith)
+passes true true c d e q = absurd (omega arith)
+passes false b c d e q = absurd (omega arith)
+
+served-mode : (s : State) (ws : List ℕ) → requestRefusal s ws ≡ 0 → T (allowed (serviceOf (getD ws 0 0)) (s .mode))
+unfolding requestRefusal serviceRefusal
+served-mode s ws e = passes (inRange s) (eqb (length ws) 0) (isListed (serviceOf (getD ws 0 0))) (eqb (length ws) (rowOf (serviceOf (getD ws 0 0)) .wordsIn)) (allowed (serviceOf (getD ws 0 0)) (s .mode)) e
+
+word-fits : (ws : List ℕ) (i : ℕ) → T (areWords ws) → getD ws i 0 ≤ 65535
+word-fits [] i h = omega arith
+word-fits (w ∷ ws) zero h = omega (arith, ltb-true w 65536 (is-true (and-l (ltb w 65536) (areWords ws) h)))
+word-fits (w ∷ ws) (suc i) h = word-fits ws i (and-r (ltb w 65536) (areWords ws) h)
+
+only-measure : (m : Mode) → T (allowed GetProfile m) → m ≡ Measure
+only-measure Idle h = absurd h
+only-measure Rotate h = absurd h
+only-measure Measure h = refl
+
+-- a service that only answers, one way or the other
+either : (s : State) → Parts s → (b : Bool) (ws vs : List ℕ) → Parts ((if b then answer s ws else answer s vs) .after)
+either s p true ws vs = p
+either s p false ws vs = p
+
+-- each service, where it is allowed
+outcome-kept : (v : Service) (s : State) (a b c d : ℕ) → Parts s → a ≤ 65535 → T (allowed v (s .mode)) → Parts (outcomeOf v s a b c d .after)
+outcome-kept GetStatus s a b c d p l h = p
+outcome-kept GetSignal s a b c d p l h = p
+outcome-kept SetSignal s a b c d p l h = signal-kept s p a
+outcome-kept SetConfig s a b c d p l h = config-kept s p a b c d (λ e. subst (λ (m : Mode). T (allowed SetConfig m)) e h)
+outcome-kept GetConfig s a b c d p l h = either s p (eqb a 0x0010) _ _
+outcome-kept SetFunction s a b c d p l h = function-kept s p a b c d (λ e. subst (λ (m : Mode). T (allowed SetFunction m)) e h)
+outcome-kept GetFunction s a b c d p l h = either s p (ltb 7 a) _ _
+outcome-kept GetProfile s a b c d p l h = profile-kept s p a b l (only-measure (s .mode) h)
+outcome-kept CancelProfile s a b c d p l h = cancel-kept s p
+outcome-kept DoReset s a b c d p l h = reset-kept s p a
+outcome-kept TransIdle s a b c d p l h = idle-kept s p
+outcome-kept TransRotate s a b c d p l h = rotate-kept s p a
+outcome-kept TransMeasure s a b c d p l h = measure-kept s p (λ e. subst (λ (m : Mode). T (allowed TransMeasure m)) e h)
+outcome-kept Unknown s a b c d p l h = p
+
+pub ranges-kept : RangesKept
+unfolding outcome
+ranges-kept s ws room w h =
+    requested-by (λ x. T (inRange (x .reply .state))) s ws room (λ _. h)
+    (λ e. whole _ (outcome-kept (serviceOf (getD ws 0 0)) s (getD ws 1 0) (getD ws 2 0) (getD ws 3 0) (getD ws 4 0) (parts s h) (word-fits ws 1 w) (served-mode s ws e)))

@@ -1,0 +1,15 @@
+use borrow.Author.Needs.{needs}
+use Rattle.sensor.proofs.Refusals.{not-listed, wrong-count, wrong-mode, no-objection}
+use Rattle.sensor.proofs.requests.service_refusal.Statement.{statement}
+use Rattle.sensor.proofs.requests.service_refusal.Tie as tie
+
+pub service-refusal-spec : {M : Type 1} → statement M
+service-refusal-spec =
+    tie.close
+    (tie.spec
+    (λ c κs. search needs)
+    (λ c. search not-listed)
+    (λ c. search wrong-count)
+    (λ c κs. search needs)
+    (λ c. search wrong-mode)
+    (λ c. search no-objection))

@@ -1,0 +1,50 @@
+use borrow.Author.Needs.{needs}
+use Rattle.sensor.proofs.Answering.{service-is}
+use Rattle.sensor.proofs.table.serve.Statement.{statement}
+use Rattle.sensor.proofs.table.serve.Tie as tie
+
+pub serve-spec : {M : Type 1} → statement M
+serve-spec =
+    tie.close
+    (tie.spec
+    (λ c. search needs)
+    (λ c κs. search needs)
+    (λ c. search needs)
+    (λ c κs. search needs)
+    (λ c. search needs)
+    (λ c κs. search needs)
+    (λ c. search needs)
+    (λ c κs. search needs)
+    (λ c. search needs)
+    (λ c κs. search needs)
+    (λ c. search needs)
+    (λ c κs. search needs)
+    (λ c. search needs)
+    (λ c κs. search needs)
+    (λ c. search needs)
+    (λ c κs. search needs)
+    (λ c. search needs)
+    (λ c κs. search needs)
+    (λ c. search needs)
+    (λ c κs. search needs)
+    (λ c. search needs)
+    (λ c κs. search needs)
+    (λ c. search needs)
+    (λ c κs. search needs)
+    (λ c. search needs)
+    (λ c κs. search needs)
+    (λ c. search needs)
+    (λ c. search service-is)
+    (λ c. search service-is)
+    (λ c. search service-is)
+    (λ c. search service-is)
+    (λ c. search service-is)
+    (λ c. search service-is)
+    (λ c. search service-is)
+    (λ c. search service-is)
+    (λ c. search service-is)
+    (λ c. search service-is)
+    (λ c. search service-is)
+    (λ c. search service-is)
+    (λ c. search service-is)
+    (λ c. search (service-is, needs)))

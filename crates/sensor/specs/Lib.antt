@@ -1,0 +1,5 @@
+-- To be read in this order.
+pub mod Table
+pub mod Requests
+pub mod Demands
+pub mod Figures

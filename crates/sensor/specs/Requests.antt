@@ -1,0 +1,40 @@
+-- Document 01, 'Numbers for no': a request, its refusals 1 to 6 in order, and what it hands back.
+use mathlib.Core.Bool.{Bool, not}
+use mathlib.Core.List.{List}
+use Prim.Native.Nat.{ℕ}
+use lib.Dec.{eqb}
+use lib.ListN.{length, getD}
+use Rattle.words.specs.Choice.{if_then_else_}
+use Rattle.state.specs.declared.State.{State}
+use Rattle.state.specs.declared.Mode.{Mode}
+use Rattle.state.specs.Ranges.{inRange}
+use Rattle.state.specs.Replies.{Outcome, Result, refused, delivered}
+use Rattle.sensor.specs.declared.Service.{Service}
+use Rattle.sensor.specs.Table.{rowOf, serviceOf, allowed, outcomeOf}
+
+-- the code is in the table: each row has a word, the code's, at least
+abbrev pub isListed : Service → Bool
+isListed v = not (eqb (rowOf v .wordsIn) 0)
+
+-- 3 "code not in the table", 4 "wrong number of words", 5 "mode not listed"
+unfoldable pub serviceRefusal : Service → ℕ → Mode → ℕ
+serviceRefusal v count mode =
+    if not (isListed v) then 3 else
+    if not (eqb count (rowOf v .wordsIn)) then 4 else
+    if not (allowed v mode) then 5 else 0
+
+-- 1 "state outside its ranges", 2 "no word", then 3 to 5; 0 for none
+unfoldable pub requestRefusal : State → List ℕ → ℕ
+requestRefusal s ws =
+    if not (inRange s) then 1 else
+    if eqb (length ws) 0 then 2 else
+    serviceRefusal (serviceOf (getD ws 0 0)) (length ws) (s .mode)
+
+-- what the service of the first word does with the others
+unfoldable pub outcome : State → List ℕ → Outcome
+outcome s ws = outcomeOf (serviceOf (getD ws 0 0)) s (getD ws 1 0) (getD ws 2 0) (getD ws 3 0) (getD ws 4 0)
+
+-- a request into a buffer of so many words: one of refusals 1 to 5, or 6, or the outcome
+unfoldable pub requested : State → List ℕ → ℕ → Result
+requested s ws room =
+    if eqb (requestRefusal s ws) 0 then delivered s (outcome s ws) room else refused s (requestRefusal s ws)

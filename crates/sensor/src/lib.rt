@@ -1,0 +1,23 @@
+// The sensor's side of a request: the table of the services, the refusals, and the answer into a lent buffer.
+mod requests;
+mod table;
+
+pub use requests::request;
+
+// The services of the table, and what stands for a code that is not in it.
+pub enum Service {
+    GetStatus,
+    GetSignal,
+    SetSignal,
+    SetConfig,
+    GetConfig,
+    SetFunction,
+    GetFunction,
+    GetProfile,
+    CancelProfile,
+    DoReset,
+    TransIdle,
+    TransRotate,
+    TransMeasure,
+    Unknown,
+}

@@ -1,0 +1,111 @@
+// One request: refusals 1 to 6 in their order, and the answer written last.
+ghost use mathlib.Core.Path.{_≡_};
+ghost use Prim.Native.Nat.{_≤_};
+ghost use lib.ListN.{length, getD, take};
+ghost use Rattle.words.specs.Buffers.{over};
+ghost use Rattle.state.specs.Replies.{Answered, delivered};
+ghost use Rattle.services.specs.Answers.{Gives, unpacked};
+ghost use Rattle.sensor.specs.Requests.{serviceRefusal, requestRefusal, outcome, requested};
+use crate::Service;
+use crate::table::is_allowed;
+use crate::table::serve;
+use crate::table::service_of;
+use crate::table::words_in;
+use services::Served;
+use state::Mode;
+use state::Reply;
+use state::State;
+
+// Refusals 3, 4 and 5.
+fn service_refusal(service: Service, count: usize, mode: Mode) -> u16
+    ensures { λ r. ⌜ r ≡ serviceRefusal service count mode ⌝ }
+{
+    let want = words_in(service);
+    if want == 0 {
+        return 3;
+    }
+    if count != want {
+        return 4;
+    }
+    if !is_allowed(service, mode) {
+        return 5;
+    }
+    0
+}
+
+// Refusals 1 to 5, 0 for none.
+fn request_refusal(state: State, words: &[u16]) -> u16
+    ensures { λ r. ⌜ r ≡ requestRefusal state (now (words .entry)) ⌝ }
+{
+    if !state::in_range(state) {
+        return 1;
+    }
+    if words.len() == 0 {
+        return 2;
+    }
+    let service = service_of(words[0]);
+    let mode = state.mode;
+    service_refusal(service, words.len(), mode)
+}
+
+// What the service of the first word does with the others.
+fn serve_words(state: State, words: &[u16]) -> Served
+    ensures { λ r. ⌜ Gives r (outcome state (now (words .entry))) ⌝ }
+{
+    let service = service_of(words::word_at(words, 0));
+    let a = words::word_at(words, 1);
+    let b = words::word_at(words, 2);
+    let c = words::word_at(words, 3);
+    let d = words::word_at(words, 4);
+    serve(service, state, a, b, c, d)
+}
+
+// The first words of an answer go to the buffer's start.
+fn write(words: [u16; 5], count: usize, out: &mut [u16])
+    requires { ⌜ (count ≤ 5) × (count ≤ length (now out)) ⌝ }
+    ensures { λ r. ⌜ now (out .exit) ≡ over (take count words) (now (out .entry)) ⌝ }
+{
+    let mut i: usize = 0;
+    while i < count {
+        out[i] = words[i];
+        i += 1;
+    }
+}
+
+// Refusal 6 with the state as it came, or the answer and the next state.
+fn deliver(served: Served, state: State, out: &mut [u16]) -> Reply
+    requires { ⌜ served .count ≤ 5 ⌝ }
+    ensures { λ r. ⌜ Answered r (now (out .entry)) (now (out .exit)) (delivered state (unpacked served) (length (now (out .entry)))) ⌝ }
+{
+    let count = served.count;
+    if out.len() < count {
+        return Reply {
+            state,
+            refusal: 6,
+            count: 0,
+        };
+    }
+    let words = served.words;
+    write(words, count, out);
+    let next = served.state;
+    Reply {
+        state: next,
+        refusal: 0,
+        count,
+    }
+}
+
+// One request, answered into the buffer that is lent.
+pub fn request(state: State, words: &[u16], out: &mut [u16]) -> Reply
+    ensures { λ r. ⌜ Answered r (now (out .entry)) (now (out .exit)) (requested state (now (words .entry)) (length (now (out .entry)))) ⌝ }
+{
+    let refusal = request_refusal(state, words);
+    if refusal != 0 {
+        return Reply {
+            state,
+            refusal,
+            count: 0,
+        };
+    }
+    deliver(serve_words(state, words), state, out)
+}

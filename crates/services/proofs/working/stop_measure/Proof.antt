@@ -1,0 +1,17 @@
+use borrow.Author.Needs.{needs}
+use Rattle.words.proofs.Tests.{picks}
+use Rattle.services.proofs.Exits.{measure-ends}
+use Rattle.services.proofs.working.stop_measure.Statement.{statement}
+use Rattle.services.proofs.working.stop_measure.Tie as tie
+
+pub stop-measure-spec : {M : Type 1} → statement M
+stop-measure-spec =
+    tie.close
+    (tie.spec
+    (λ c. search needs)
+    (λ c. search needs)
+    (λ c. search needs)
+    (λ c κs. search needs)
+    (λ c. search picks)
+    (λ c. search picks)
+    (λ c. search measure-ends))

@@ -1,0 +1,6 @@
+-- To be read in this order: what an answer is, then the services in the groups of the listing.
+pub mod Answers
+pub mod Status
+pub mod Configuration
+pub mod Measurement
+pub mod Working

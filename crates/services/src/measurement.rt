@@ -1,0 +1,44 @@
+// GET_PROFILE, CANCEL_PROFILE.
+ghost use mathlib.Core.Path.{_≡_};
+ghost use Rattle.services.specs.Answers.{Gives};
+ghost use Rattle.services.specs.Measurement.{newJob, getProfile, cancelProfile};
+use crate::Served;
+use crate::answers::answer_status;
+use crate::answers::no_word;
+use crate::answers::one_word;
+use state::Job;
+use state::State;
+
+// A job of so many profiles, none sent yet; 0 is endless.
+fn new_job(number: u16, mask: u16) -> Job
+    ensures { λ r. ⌜ r ≡ newJob number mask ⌝ }
+{
+    if number == 0 {
+        return Job::Endless { mask, sent: 0 };
+    }
+    Job::Counted {
+        left: number,
+        mask,
+        sent: 0,
+    }
+}
+
+pub fn get_profile(state: State, number: u16, mask: u16) -> Served
+    ensures { λ r. ⌜ Gives r (getProfile state number mask) ⌝ }
+{
+    let cleared = mask % 16384;
+    if cleared == 0 {
+        return one_word(state, 0x8301);
+    }
+    let mode = state.mode;
+    let job = new_job(number, cleared);
+    no_word(state::with_drive(state, mode, state.running, job))
+}
+
+pub fn cancel_profile(state: State) -> Served
+    ensures { λ r. ⌜ Gives r (cancelProfile state) ⌝ }
+{
+    let mode = state.mode;
+    let next = state::with_drive(state, mode, state.running, Job::Absent);
+    answer_status(0x8302, next)
+}

@@ -1,0 +1,98 @@
+// DO_RESET, TRANS_IDLE, TRANS_ROTATE, TRANS_MEASURE.
+ghost use mathlib.Core.Path.{_≡_};
+ghost use Rattle.services.specs.Answers.{Gives};
+ghost use Rattle.services.specs.Working.{idleOf, coldOf, stopMeasure, resetOf, doReset, transIdle, rotateOf, transRotate, transMeasure};
+use crate::Served;
+use crate::answers::answer_status;
+use crate::answers::four_words;
+use crate::answers::two_words;
+use state::Job;
+use state::Mode;
+use state::State;
+
+// IDLE at running speed 0, with no job.
+fn idle(state: State) -> State
+    ensures { λ r. ⌜ r ≡ idleOf state ⌝ }
+{
+    state::with_drive(state, Mode::Idle, 0, Job::Absent)
+}
+
+// As after power on, but for the configuration and the stored plan.
+fn cold(state: State) -> State
+    ensures { λ r. ⌜ r ≡ coldOf state ⌝ }
+{
+    let stored = state.stored;
+    let stopped = idle(state);
+    state::with_port(state::with_plans(stopped, stored, stored), 0, 0)
+}
+
+// MEASURE becomes ROTATE with no job; other modes stay.
+fn stop_measure(state: State) -> State
+    ensures { λ r. ⌜ r ≡ stopMeasure state (state .mode) ⌝ }
+{
+    let mode = state.mode;
+    match mode {
+        Mode::Idle => state,
+        Mode::Rotate => state,
+        Mode::Measure => { state::with_drive(state, Mode::Rotate, state.running, Job::Absent) }
+    }
+}
+
+fn reset(state: State, level: u16) -> State
+    ensures { λ r. ⌜ r ≡ resetOf state level ⌝ }
+{
+    if level < 2 {
+        return cold(state);
+    }
+    if level == 2 {
+        return stop_measure(state);
+    }
+    state
+}
+
+pub fn do_reset(state: State, level: u16) -> Served
+    ensures { λ r. ⌜ Gives r (doReset state level) ⌝ }
+{
+    two_words(reset(state, level), 0x8401, level)
+}
+
+pub fn trans_idle(state: State) -> Served
+    ensures { λ r. ⌜ Gives r (transIdle state) ⌝ }
+{
+    answer_status(0x8402, idle(state))
+}
+
+// ROTATE at the configured speed for 0, at the speed given for 5 to 20; else IDLE.
+fn rotate(state: State, speed: u16) -> State
+    ensures { λ r. ⌜ r ≡ rotateOf state speed ⌝ }
+{
+    if speed == 0 {
+        return state::with_drive(state, Mode::Rotate, state.speed, Job::Absent);
+    }
+    if !state::speed_ok(speed) {
+        return idle(state);
+    }
+    state::with_drive(state, Mode::Rotate, speed, Job::Absent)
+}
+
+pub fn trans_rotate(state: State, speed: u16) -> Served
+    ensures { λ r. ⌜ Gives r (transRotate state speed) ⌝ }
+{
+    answer_status(0x8403, rotate(state, speed))
+}
+
+// A running job goes on at error 0.
+pub fn trans_measure(state: State) -> Served
+    ensures { λ r. ⌜ Gives r (transMeasure state) ⌝ }
+{
+    let working = state.working;
+    let step = state.step;
+    let error = plan::measure_error(working, step, state.running);
+    if error != 0 {
+        let stopped = state::with_drive(state, Mode::Rotate, state.running, Job::Absent);
+        return four_words(stopped, 0x8404, 0, 2, error);
+    }
+    let job = state.job;
+    let measuring = state::with_drive(state, Mode::Measure, state.running, job);
+    four_words(measuring, 0x8404, 0, 3, error)
+}

@@ -1,0 +1,5 @@
+-- To be read in this order.
+pub mod Fields
+pub mod Ranges
+pub mod Fresh
+pub mod Replies

@@ -1,0 +1,49 @@
+// The sensor's state: its fields and their ranges, how it is set, and what a call hands back of it.
+use plan::Plan;
+use units::Angle;
+
+mod ranges;
+mod setters;
+mod start;
+
+pub use ranges::config_ok;
+pub use ranges::in_range;
+pub use ranges::speed_ok;
+pub use setters::with_config;
+pub use setters::with_drive;
+pub use setters::with_plans;
+pub use setters::with_port;
+pub use start::fresh;
+
+pub enum Mode {
+    Idle,
+    Rotate,
+    Measure,
+}
+
+// A profile job: none; so many left, with its mask and the number sent; or endless, with its mask and the number sent.
+pub enum Job {
+    Absent,
+    Counted { left: u16, mask: u16, sent: u16 },
+    Endless { mask: u16, sent: u16 },
+}
+
+pub struct State {
+    pub id: u16,
+    pub speed: u16,
+    pub step: Angle,
+    pub working: Plan,
+    pub stored: Plan,
+    pub mode: Mode,
+    pub running: u16,
+    pub port: u8,
+    pub counter: u16,
+    pub job: Job,
+}
+
+// What a call hands back beside the words in the buffer: the next state, the number for no (0 for none) and how many words it wrote.
+pub struct Reply {
+    pub state: State,
+    pub refusal: u16,
+    pub count: usize,
+}

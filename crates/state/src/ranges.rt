@@ -1,0 +1,112 @@
+// The test of the ranges: refusal 1 is its failing.
+ghost use mathlib.Core.Path.{_≡_};
+ghost use mathlib.Core.Bool.{_&&_};
+ghost use Rattle.state.specs.Ranges.{speedOk, configOk, runningOk, checksOk, isMeasure, jobOk, inRange};
+use crate::Job;
+use crate::Mode;
+use crate::State;
+use plan::Plan;
+use units::Angle;
+
+// 5 to 20 Hz.
+pub fn speed_ok(speed: u16) -> bool
+    ensures { λ r. ⌜ r ≡ speedOk speed ⌝ }
+{
+    if speed < 5 {
+        return false;
+    }
+    speed <= 20
+}
+
+// An id, a speed and a step that a configuration may have.
+pub fn config_ok(id: u16, speed: u16, step: Angle) -> bool
+    ensures { λ r. ⌜ r ≡ configOk id speed (step .0) ⌝ }
+{
+    if id < 1 {
+        return false;
+    }
+    if 254 < id {
+        return false;
+    }
+    if !speed_ok(speed) {
+        return false;
+    }
+    plan::is_step(step)
+}
+
+// The running speed goes with the mode, and in MEASURE the working plan passes the four checks.
+fn drive_ok(mode: Mode, running: u16, working: Plan, step: Angle) -> bool
+    ensures { λ r. ⌜ r ≡ (runningOk mode running && checksOk mode working (step .0) running) ⌝ }
+{
+    match mode {
+        Mode::Idle => running == 0,
+        Mode::Rotate => speed_ok(running),
+        Mode::Measure => {
+            if !speed_ok(running) {
+                return false;
+            }
+            plan::measure_error(working, step, running) == 0
+        }
+    }
+}
+
+fn is_measure(mode: Mode) -> bool
+    ensures { λ r. ⌜ r ≡ isMeasure mode ⌝ }
+{
+    match mode {
+        Mode::Idle => false,
+        Mode::Rotate => false,
+        Mode::Measure => true,
+    }
+}
+
+// A job exists only in MEASURE, with a mask, a number left and a number sent that it may have.
+fn job_ok(mode: Mode, job: Job) -> bool
+    ensures { λ r. ⌜ r ≡ jobOk mode job ⌝ }
+{
+    match job {
+        Job::Absent => true,
+        Job::Counted { left, mask, sent } => {
+            if !is_measure(mode) {
+                return false;
+            }
+            if !layout::mask_ok(mask) {
+                return false;
+            }
+            if left < 1 {
+                return false;
+            }
+            left as u32 + sent as u32 <= 65535
+        }
+        Job::Endless { mask, sent: _ } => {
+            if !is_measure(mode) {
+                return false;
+            }
+            layout::mask_ok(mask)
+        }
+    }
+}
+
+// Every field is in its range.
+pub fn in_range(state: State) -> bool
+    ensures { λ r. ⌜ r ≡ inRange state ⌝ }
+{
+    let step = state.step;
+    if !config_ok(state.id, state.speed, step) {
+        return false;
+    }
+    let working = state.working;
+    if !plan::plan_in_range(working) {
+        return false;
+    }
+    let stored = state.stored;
+    if !plan::plan_in_range(stored) {
+        return false;
+    }
+    let mode = state.mode;
+    if !drive_ok(mode, state.running, working, step) {
+        return false;
+    }
+    let job = state.job;
+    job_ok(mode, job)
+}

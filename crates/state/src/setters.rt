@@ -1,0 +1,50 @@
+// The state with some of its fields set. No other code writes a state out: a new field is added to `State` and to `fresh`.
+ghost use mathlib.Core.Path.{_≡_};
+ghost use Rattle.state.specs.Fields.{withConfig, withPlans, withDrive, withPort};
+use crate::Job;
+use crate::Mode;
+use crate::State;
+use plan::Plan;
+use units::Angle;
+
+pub fn with_config(state: State, id: u16, speed: u16, step: Angle) -> State
+    ensures { λ r. ⌜ r ≡ withConfig state id speed (step .0) ⌝ }
+{
+    State {
+        id,
+        speed,
+        step,
+        ..state
+    }
+}
+
+pub fn with_plans(state: State, working: Plan, stored: Plan) -> State
+    ensures { λ r. ⌜ r ≡ withPlans state working stored ⌝ }
+{
+    State {
+        working,
+        stored,
+        ..state
+    }
+}
+
+pub fn with_drive(state: State, mode: Mode, running: u16, job: Job) -> State
+    ensures { λ r. ⌜ r ≡ withDrive state mode running job ⌝ }
+{
+    State {
+        mode,
+        running,
+        job,
+        ..state
+    }
+}
+
+pub fn with_port(state: State, port: u8, counter: u16) -> State
+    ensures { λ r. ⌜ r ≡ withPort state port counter ⌝ }
+{
+    State {
+        port,
+        counter,
+        ..state
+    }
+}
