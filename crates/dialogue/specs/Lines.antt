@@ -1,0 +1,45 @@
+-- Document 01, the program: "Each record's line has running number from 1, refusal (0 for none), word count, both decimal, then the
+-- words as four capital hex digits, with single spaces between."
+use mathlib.Core.Path.{_≡_}
+use mathlib.Core.List.{List, [], _∷_, _++_}
+use Prim.Native.Nat.{ℕ, zero, suc, _+_, _/_, _%_}
+use lib.Dec.{leb, ltb, eqb}
+use lib.ListN.{length, getD}
+use Rattle.words.specs.Choice.{if_then_else_}
+use Rattle.words.specs.Buffers.{Wrote, inTurn}
+
+-- the character of a digit, 0 to 9 and A to F
+abbrev pub glyph : ℕ → ℕ
+glyph d = if ltb d 10 then 48 + d else 55 + d
+
+-- the last k digits of a number
+unfoldable pub digits : ℕ → ℕ → ℕ → List ℕ
+digits base zero n = []
+digits base (suc k) n = digits base k (n / base) ++ (glyph (n % base) ∷ [])
+
+-- without the zeros in front, but for the last digit
+unfoldable pub stripped : List ℕ → List ℕ
+stripped [] = []
+stripped (d ∷ []) = d ∷ []
+stripped (d ∷ e ∷ ds) = if eqb d 48 then stripped (e ∷ ds) else d ∷ e ∷ ds
+
+-- a number of up to 64 bits, which twenty digits hold
+unfoldable pub decimal : ℕ → List ℕ
+decimal n = stripped (digits 10 20 n)
+
+-- a word, behind a space
+unfoldable pub spacedHex : ℕ → List ℕ
+spacedHex w = 32 ∷ digits 16 4 w
+
+-- a line, with its end
+unfoldable pub lineOf : ℕ → ℕ → List ℕ → List ℕ
+lineOf nr refusal ws =
+    decimal nr
+    ++ (32 ∷ decimal refusal)
+    ++ (32 ∷ decimal (length ws))
+    ++ inTurn (λ k. spacedHex (getD ws k 0)) (length ws)
+    ++ (10 ∷ [])
+
+-- the line where the buffer has room for it, else nothing
+unfoldable pub fitting : List ℕ → ℕ → List ℕ
+fitting line room = if leb (length line) room then line else []

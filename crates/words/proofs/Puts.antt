@@ -1,0 +1,113 @@
+-- A buffer that holds words over its front, with one write more: at a place, or by a writer that is lent the rest of it.
+use mathlib.Core.Path.{_≡_, refl, sym, ap, _∙_}
+use mathlib.Core.List.{List, [], _∷_, _++_, append-assoc, append-nil}
+use Prim.Native.Nat.{ℕ, zero, suc, _+_, _-_, _≤_, _<_}
+use native.Mathlib.Nat.{add-zero, add-suc}
+use native.Mathlib.Numerals.{add-one}
+use native.Mathlib.Omega.{arith}
+use lib.ListN.{length, take, drop, set, length-append, length-drop, length-take, take-append-drop, drop-of-length-le}
+use lib.Seq.{take-all, length-take-le, take-at, drop-at, drop-drop, set-split}
+use Rattle.words.specs.Buffers.{over, Wrote, Put, inTurn}
+
+-- nothing is written yet
+pub none-yet : (d : List ℕ) → Wrote [] d d 0
+unfolding over
+none-yet d = record { words = refl; counted = refl }
+
+module _ {ps d₀ d : List ℕ} {at : ℕ} (w : Wrote ps d₀ d at) where
+  -- what stands behind the words, and in front of it
+  rest : drop at d ≡ drop (length ps) d₀
+  unfolding over
+  rest = rw (w .words, w .counted) (drop-at ps _ _ refl)
+
+  front : take at d ≡ ps
+  unfolding over
+  front = rw (w .words, w .counted) (take-at ps _ _ refl)
+
+  -- the buffer keeps its length
+  pub as-long : length ps ≤ length d₀ → length d ≡ length d₀
+  unfolding over
+  as-long h = rw (w .words, length-append, length-drop) (omega arith)
+
+  -- room for what is written next
+  pub room : (ws : List ℕ) → length ps + length ws ≤ length d₀ → at + length ws ≤ length d
+  room ws h = omega (arith, as-long (omega arith), w .counted)
+
+  -- one write more, at a place
+  pub and-put : {ws d' : List ℕ} {r : ℕ} → Put ws d at d' r → Wrote (ps ++ ws) d₀ d' r
+  unfolding over
+  and-put {ws} {d'} {r} p =
+      record {
+        words = p .words ∙ rw (front, ← drop-drop, rest, drop-drop, append-assoc, length-append) refl;
+        counted = p .place ∙ rw (w .counted, length-append);
+      }
+
+  -- one write more, by a writer that was lent the rest
+  and-wrote : {ws part : List ℕ} {n : ℕ} → Wrote ws (drop at d) part n → Wrote (ps ++ ws) d₀ (take at d ++ part) (at + n)
+  unfolding over
+  and-wrote {ws} {part} {n} p =
+      record {
+        words = rw (front, p .words, rest, drop-drop, append-assoc, length-append) refl;
+        counted = rw (w .counted, p .counted, length-append);
+      }
+
+  -- the part of d from at on, as `&mut d[at..]` lends it
+  pub lent-room : length (take (length d - at) (drop at d)) ≡ length d - at
+  lent-room = rw (length-take, length-drop) (omega arith)
+
+  -- what is in the buffer when the part is back
+  pub and-lent : {ws part : List ℕ} {n : ℕ} → Wrote ws (take (length d - at) (drop at d)) part n
+      → Wrote (ps ++ ws) d₀ (take at d ++ (part ++ drop (length d - at) (drop at d))) (at + n)
+  and-lent {ws} {part} {n} p =
+      let all : take (length d - at) (drop at d) ≡ drop at d = take-all (length d - at) (drop at d) (rw length-drop (omega arith)) in
+      let none : drop (length d - at) (drop at d) ≡ [] = drop-of-length-le (drop at d) {i = length d - at} (rw length-drop (omega arith)) in
+      rw (none, append-nil part) (and-wrote (rw all at p))
+
+-- one word, or none
+pub put-one : (d : List ℕ) (at w : ℕ) → at < length d → Put (w ∷ []) d at (set d at w) (at + 1)
+put-one d at w h = record { words = rw (set-split d at w, add-one); place = refl }
+
+pub put-none : (d : List ℕ) (at : ℕ) → Put [] d at d at
+put-none d at = record { words = rw (add-zero, take-append-drop); place = rw add-zero }
+
+-- writes at a place, one after another
+module _ {d : List ℕ} {at : ℕ} (inside : at ≤ length d) where
+  at-place : Wrote (take at d) d d at
+  unfolding over
+  at-place =
+      let e : length (take at d) ≡ at = length-take-le at d inside in
+      record { words = rw (e, take-append-drop); counted = sym e }
+
+  as-put : {ws d' : List ℕ} {r : ℕ} → Wrote (take at d ++ ws) d d' r → Put ws d at d' r
+  unfolding over
+  as-put w =
+      let e : length (take at d) ≡ at = length-take-le at d inside in
+      record { words = w .words ∙ rw (append-assoc, length-append, e) refl; place = w .counted ∙ rw (length-append, e) }
+
+  pub put-then : {ws vs d' d'' : List ℕ} {r r' : ℕ} → Put ws d at d' r → Put vs d' r d'' r' → Put (ws ++ vs) d at d'' r'
+  put-then p q = as-put (rw append-assoc at (and-put (and-put at-place p) q))
+
+  pub put-room : {ws d' : List ℕ} {r : ℕ} → Put ws d at d' r → (vs : List ℕ) → at + length ws + length vs ≤ length d → r + length vs ≤ length d'
+  put-room {ws} p vs h =
+      let e : length (take at d) ≡ at = length-take-le at d inside in
+      room (and-put at-place p) vs (rw (length-append, e) h)
+
+-- a put at the start is a write of the front
+pub put-first : {ws d d' : List ℕ} {r : ℕ} → Put ws d 0 d' r → Wrote ws d d' r
+put-first p = and-put (none-yet _) p
+
+-- blocks in turn: one more, and no more than all
+pub turn-more : (f : ℕ → List ℕ) (i : ℕ) → inTurn f (i + 1) ≡ inTurn f i ++ f i
+unfolding inTurn
+turn-more f i = rw add-one
+
+turns-grow : (f : ℕ → List ℕ) (i k : ℕ) → length (inTurn f i) ≤ length (inTurn f (i + k))
+unfolding inTurn
+turns-grow f i zero = rw add-zero (omega arith)
+turns-grow f i (suc k) = rw (add-suc, length-append) (omega (arith, turns-grow f i k))
+
+pub turn-room : (f : ℕ → List ℕ) (i n : ℕ) → i < n → length (inTurn f i) + length (f i) ≤ length (inTurn f n)
+turn-room f i n h =
+    let e : i + 1 + (n - (i + 1)) ≡ n = omega arith in
+    let m : length (inTurn f i ++ f i) ≤ length (inTurn f n) = rw (e, turn-more) at (turns-grow f (i + 1) (n - (i + 1))) in
+    rw length-append at m
