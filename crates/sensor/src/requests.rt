@@ -21,13 +21,14 @@ fn service_refusal(service: Service, count: usize, mode: Mode) -> u16
     ensures { λ r. ⌜ r ≡ serviceRefusal service count mode ⌝ }
 {
     let want = words_in(service);
+    let allowed = is_allowed(service, mode);
     if want == 0 {
         return 3;
     }
     if count != want {
         return 4;
     }
-    if !is_allowed(service, mode) {
+    if !allowed {
         return 5;
     }
     0
@@ -77,17 +78,17 @@ fn deliver(served: Served, state: State, out: &mut [u16]) -> Reply
     requires { ⌜ served .count ≤ 5 ⌝ }
     ensures { λ r. ⌜ Answered r (now (out .entry)) (now (out .exit)) (delivered state (unpacked served) (length (now (out .entry)))) ⌝ }
 {
+    let next = served.state;
     let count = served.count;
     if out.len() < count {
         return Reply {
-            state,
+            state: state,
             refusal: 6,
             count: 0,
         };
     }
     let words = served.words;
     write(words, count, out);
-    let next = served.state;
     Reply {
         state: next,
         refusal: 0,

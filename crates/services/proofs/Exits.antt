@@ -1,8 +1,9 @@
 -- The answers of the services: one law for each way out, over what the callees ensure.
 use mathlib.Core.Path.{_≡_}
-use mathlib.Core.Bool.{Bool, true, false, not}
+use mathlib.Core.Bool.{Bool, true, false, not, _&&_}
 use mathlib.Core.List.{List, [], _∷_}
 use Prim.Native.Nat.{ℕ, _≤_}
+use lib.Dec.{eqb}
 use borrow.Author.Tests.{eq-eqb, ne-eqb, le-ltb}
 use Rattle.layout.specs.Masks.{cleared}
 use Rattle.plan.specs.declared.Plan.{Plan}
@@ -31,13 +32,13 @@ module _ (r : Served) (s t : State) (e : s ≡ t) where
   given-status code g = rw e at g
 
 -- `set_config`
-module _ (r : Served) (s : State) (item id speed step : ℕ) (known : item ≡ 0x0010) (a : Bool) (ea : a ≡ configOk id speed step) where
+module _ (r : Served) (s : State) (item id speed step : ℕ) (a : Bool) (ea : a ≡ (eqb item 0x0010 && configOk id speed step)) where
   pub config-stays : not a ≡ true → Gives r (answer s (0x8201 ∷ 0xFFFF ∷ [])) → Gives r (setConfig s item id speed step)
-  config-stays q g = rw (eq-eqb _ _ known, said-no ea q) g
+  config-stays q g = rw (said-no ea q) g
 
   pub config-set : not a ≡ false → (t : State) → t ≡ withConfig s id speed step → Gives r (answer t (0x8201 ∷ item ∷ []))
       → Gives r (setConfig s item id speed step)
-  config-set q t e g = rw (eq-eqb _ _ known, said-yes ea q) (rw e at g)
+  config-set q t e g = rw (said-yes ea q) (rw e at g)
 
 -- `set_function`
 module _ (r : Served) (s t : State) (number function stop flash at f : ℕ)

@@ -1,8 +1,10 @@
 // SET_CONFIG, GET_CONFIG, SET_FUNCTION, GET_FUNCTION.
 ghost use mathlib.Core.Path.{_≡_};
-ghost use Prim.Native.Nat.{_≤_};
+ghost use mathlib.Core.Bool.{_&&_};
+ghost use lib.Dec.{eqb};
+ghost use Rattle.state.specs.Ranges.{configOk};
 ghost use Rattle.services.specs.Answers.{Gives};
-ghost use Rattle.services.specs.Configuration.{setConfig, getConfig, sectorSet, functionSet, workingSet, setFunction, getFunction};
+ghost use Rattle.services.specs.Configuration.{setConfig, getConfig, sectorSet, functionSet, setFunction, getFunction};
 use crate::Served;
 use crate::answers::five_words;
 use crate::answers::four_words;
@@ -11,21 +13,26 @@ use plan::Sector;
 use state::State;
 use units::Angle;
 
-// All three are tested before any is stored.
+// The item is the configuration's, and id, speed and step are in their ranges.
+fn config_taken(item: u16, id: u16, speed: u16, step: Angle) -> bool
+    ensures { λ r. ⌜ r ≡ (eqb item 0x0010 && configOk id speed (step .0)) ⌝ }
+{
+    if item != 0x0010 {
+        return false;
+    }
+    state::config_ok(id, speed, step)
+}
+
+// All three or none: which of the two states is handed on is decided by one test of them all.
 pub fn set_config(state: State, item: u16, id: u16, speed: u16, step: u16) -> Served
     ensures { λ r. ⌜ Gives r (setConfig state item id speed step) ⌝ }
 {
-    if item != 0x0010 {
+    let angle = Angle(step);
+    let next = state::with_config(state, id, speed, angle);
+    if !config_taken(item, id, speed, angle) {
         return two_words(state, 0x8201, 0xFFFF);
     }
-    if !state::config_ok(id, speed, Angle(step)) {
-        return two_words(state, 0x8201, 0xFFFF);
-    }
-    two_words(
-        state::with_config(state, id, speed, Angle(step)),
-        0x8201,
-        item,
-    )
+    two_words(next, 0x8201, item)
 }
 
 pub fn get_config(state: State, item: u16) -> Served

@@ -8,8 +8,8 @@ service-refusal-spec =
     tie.close
     (tie.spec
     (λ c κs. search needs)
+    (λ c κs. search needs)
     (λ c. search not-listed)
     (λ c. search wrong-count)
-    (λ c κs. search needs)
     (λ c. search wrong-mode)
     (λ c. search no-objection))

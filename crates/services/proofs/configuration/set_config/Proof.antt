@@ -1,5 +1,4 @@
 use borrow.Author.Needs.{needs}
-use Rattle.words.proofs.Tests.{picks}
 use Rattle.services.proofs.Exits.{config-stays, config-set}
 use Rattle.services.proofs.configuration.set_config.Statement.{statement}
 use Rattle.services.proofs.configuration.set_config.Tie as tie
@@ -9,10 +8,8 @@ set-config-spec =
     tie.close
     (tie.spec
     (λ c κs. search needs)
-    (λ c. search picks)
     (λ c κs. search needs)
     (λ c κs. search needs)
     (λ c. search config-stays)
-    (λ c κs. search needs)
     (λ c κs. search needs)
     (λ c. search config-set))
