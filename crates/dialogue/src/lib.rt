@@ -9,5 +9,5 @@ pub use records::take_record;
 pub enum Record {
     End,
     Cut,
-    Whole(usize),
+    Whole(u8),
 }

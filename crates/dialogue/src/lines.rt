@@ -1,7 +1,8 @@
 // A line of the program's output.
 ghost use mathlib.Core.Path.{_≡_};
 ghost use Prim.Native.Nat.{_+_, _<_, _≤_};
-ghost use mathlib.Core.List.{_++_};
+ghost use mathlib.Core.List.{[], _∷_};
+ghost use lib.Dec.{leb};
 ghost use lib.ListN.{length, getD, drop};
 ghost use Rattle.words.specs.Buffers.{Wrote, Put, inTurn};
 ghost use Rattle.dialogue.specs.Lines.{glyph as Lines·glyph, digits as Lines·digits, stripped, decimal, spacedHex, lineOf, fitting};
@@ -34,7 +35,7 @@ fn twenty(n: u64) -> [u8; 20]
 
 // How many of the digits are zeros in front, the last one aside.
 fn leading(text: [u8; 20]) -> usize
-    ensures { λ r. ⌜ (r < 20) × (drop r text ≡ stripped text) ⌝ }
+    ensures { λ r. ⌜ (r + length (stripped text) ≡ 20) × (drop r text ≡ stripped text) ⌝ }
 {
     let mut i: usize = 0;
     while i < 19 {
@@ -43,36 +44,75 @@ fn leading(text: [u8; 20]) -> usize
         }
         i += 1;
     }
-    19
+    i
 }
 
-// The digits from a place of the array on, at a place of the buffer; the place behind them.
-fn put_digits(out: &mut [u8], at: usize, text: [u8; 20], first: usize) -> usize
-    requires { ⌜ (first ≤ 20) × (at + length (drop first text) ≤ length (now out)) ⌝ }
-    ensures { λ r. ⌜ Put (drop first text) (now (out .entry)) at (now (out .exit)) r ⌝ }
+// How many characters a number has.
+fn width(n: u64) -> usize
+    ensures { λ r. ⌜ (r ≡ length (decimal n)) × (r ≤ 20) ⌝ }
 {
-    let mut i = first;
+    20 - leading(twenty(n))
+}
+
+// Whether a line is no longer than the room.
+fn fits(nr: u64, refusal: u16, words: &[u16], room: usize) -> bool
+    ensures { λ r. ⌜ r ≡ leb (length (lineOf nr refusal (now (words .entry)))) room ⌝ }
+{
+    let fixed = width(nr) + width(refusal as u64) + width(words.len() as u64) + 3;
+    if room < fixed {
+        return false;
+    }
+    if (room - fixed) / 5 < words.len() {
+        return false;
+    }
+    true
+}
+
+// A byte at a place of the buffer. This and what follows answer with the place behind what they put.
+fn put(out: &mut [u8], at: usize, byte: u8) -> usize
+    requires { ⌜ at < length (now out) ⌝ }
+    ensures { λ r. ⌜ Put (byte ∷ []) (now (out .entry)) at (now (out .exit)) r ⌝ }
+{
+    out[at] = byte;
+    at + 1
+}
+
+// A number.
+fn put_decimal(out: &mut [u8], at: usize, n: u64) -> usize
+    requires { ⌜ at + length (decimal n) ≤ length (now out) ⌝ }
+    ensures { λ r. ⌜ Put (decimal n) (now (out .entry)) at (now (out .exit)) r ⌝ }
+{
+    let text = twenty(n);
+    let first = leading(text);
     let mut to = at;
-    while i < 20 {
-        out[to] = text[i];
-        to += 1;
-        i += 1;
+    let mut k: usize = 0;
+    while k < 20 - first {
+        to = put(out, to, text[first + k]);
+        k += 1;
     }
     to
 }
 
-// A space and a word's four hex digits at a place of the buffer; the place behind them.
+// A number behind a space.
+fn put_spaced(out: &mut [u8], at: usize, n: u64) -> usize
+    requires { ⌜ at + length (32 ∷ decimal n) ≤ length (now out) ⌝ }
+    ensures { λ r. ⌜ Put (32 ∷ decimal n) (now (out .entry)) at (now (out .exit)) r ⌝ }
+{
+    let to = put(out, at, 32);
+    put_decimal(out, to, n)
+}
+
+// A word's four hex digits behind a space.
 fn put_hex(out: &mut [u8], at: usize, w: u16) -> usize
     requires { ⌜ at + 5 ≤ length (now out) ⌝ }
     ensures { λ r. ⌜ Put (spacedHex w) (now (out .entry)) at (now (out .exit)) r ⌝ }
 {
     let n = w as u64;
-    out[at] = 32;
-    out[at + 1] = glyph(n / 4096);
-    out[at + 2] = glyph(n / 256 % 16);
-    out[at + 3] = glyph(n / 16 % 16);
-    out[at + 4] = glyph(n % 16);
-    at + 5
+    let mut to = put(out, at, 32);
+    to = put(out, to, glyph(n / 16 / 16 / 16 % 16));
+    to = put(out, to, glyph(n / 16 / 16 % 16));
+    to = put(out, to, glyph(n / 16 % 16));
+    put(out, to, glyph(n % 16))
 }
 
 // The words, each behind a space.
@@ -93,25 +133,12 @@ fn put_words(out: &mut [u8], at: usize, words: &[u16]) -> usize
 pub fn write_line(nr: u64, refusal: u16, words: &[u16], out: &mut [u8]) -> usize
     ensures { λ r. ⌜ Wrote (fitting (lineOf nr refusal (now (words .entry))) (length (now (out .entry)))) (now (out .entry)) (now (out .exit)) r ⌝ }
 {
-    let a = twenty(nr);
-    let b = twenty(refusal as u64);
-    let c = twenty(words.len() as u64);
-    let i = leading(a);
-    let j = leading(b);
-    let k = leading(c);
-    let fixed = (20 - i) + (20 - j) + (20 - k) + 3;
-    if out.len() < fixed {
+    if !fits(nr, refusal, words, out.len()) {
         return 0;
     }
-    if (out.len() - fixed) / 5 < words.len() {
-        return 0;
-    }
-    let mut at = put_digits(out, 0, a, i);
-    out[at] = 32;
-    at = put_digits(out, at + 1, b, j);
-    out[at] = 32;
-    at = put_digits(out, at + 1, c, k);
+    let mut at = put_decimal(out, 0, nr);
+    at = put_spaced(out, at, refusal as u64);
+    at = put_spaced(out, at, words.len() as u64);
     at = put_words(out, at, words);
-    out[at] = 10;
-    at + 1
+    put(out, at, 10)
 }

@@ -1,8 +1,36 @@
 // A record: a byte n, then n words, high byte first.
 ghost use mathlib.Core.Path.{_≡_};
-ghost use lib.ListN.{length};
-ghost use Rattle.dialogue.specs.Records.{Taken};
+ghost use Prim.Native.Nat.{_+_, _*_, _<_, _≤_};
+ghost use lib.ListN.{length, drop};
+ghost use Rattle.words.specs.Buffers.{over, inTurn};
+ghost use Rattle.dialogue.specs.Records.{recordWord, Taken};
 use crate::Record;
+
+// The count that a byte holds.
+fn count(byte: u8) -> usize
+    ensures { λ r. ⌜ (r ≡ byte) × (r < 256) ⌝ }
+{
+    byte as usize
+}
+
+// The word of two bytes, high byte first.
+fn word(high: u8, low: u8) -> u16
+    ensures { λ r. ⌜ r ≡ high * 256 + low ⌝ }
+{
+    high as u16 * 256 + low as u16
+}
+
+// The n words behind a record's count, over the front of the buffer.
+fn take_words(bytes: &[u8], n: usize, words: &mut [u16])
+    requires { ⌜ (2 * n + 1 ≤ length (now bytes)) × (n ≤ length (now words)) ⌝ }
+    ensures { λ _. ⌜ now (words .exit) ≡ over (inTurn (recordWord (drop 1 (now (bytes .entry)))) n) (now (words .entry)) ⌝ }
+{
+    let mut k: usize = 0;
+    while k < n {
+        words[k] = word(bytes[2 * k + 1], bytes[2 * k + 2]);
+        k += 1;
+    }
+}
 
 // The record at the front of the bytes, and its words over the front of the array, which has room for those of every record.
 pub fn take_record(bytes: &[u8], words: &mut [u16; 255]) -> Record
@@ -11,14 +39,11 @@ pub fn take_record(bytes: &[u8], words: &mut [u16; 255]) -> Record
     if bytes.len() == 0 {
         return Record::End;
     }
-    let n = bytes[0] as usize;
+    let byte = bytes[0];
+    let n = count(byte);
     if bytes.len() - 1 < 2 * n {
         return Record::Cut;
     }
-    let mut k: usize = 0;
-    while k < n {
-        words[k] = bytes[2 * k + 1] as u16 * 256 + bytes[2 * k + 2] as u16;
-        k += 1;
-    }
-    Record::Whole(n)
+    take_words(bytes, n, words);
+    Record::Whole(byte)
 }

@@ -15,7 +15,7 @@ use Rattle.state.specs.declared.Mode.{Mode}
 use Rattle.state.specs.declared.Mode.the-variants.{Idle, Rotate, Measure}
 use Rattle.state.specs.Ranges.{inRange}
 use Rattle.state.specs.Replies.{Outcome, Result, refused, delivered, Unchanged}
-use Rattle.state.proofs.Delivery.{refused-unchanged, done, delivered-by, delivered-number}
+use Rattle.state.proofs.Delivery.{refused-unchanged, done, delivered-by, delivered-number, delivered-room}
 use Rattle.state.proofs.Parts.{Parts, parts, whole}
 use Rattle.services.specs.Answers.{answer}
 use Rattle.services.proofs.Kept.{signal-kept, config-kept, function-kept, profile-kept, cancel-kept, idle-kept, reset-kept, rotate-kept, measure-kept}
@@ -34,6 +34,15 @@ requested-by P s ws room h k = go (eqb (requestRefusal s ws) 0) refl
     go : (b : Bool) → eqb (requestRefusal s ws) 0 ≡ b → P (if b then delivered s (outcome s ws) room else refused s (requestRefusal s ws))
     go true e = delivered-by P s (outcome s ws) room (h 6) (k (eqb-true _ 0 e))
     go false e = h (requestRefusal s ws)
+
+-- no more words than the buffer has are counted
+pub requested-room : (s : State) (ws : List ℕ) (room : ℕ) → requested s ws room .reply .count ≤ room
+unfolding requested
+requested-room s ws room = go (eqb (requestRefusal s ws) 0)
+  where
+    go : (b : Bool) → (if b then delivered s (outcome s ws) room else refused s (requestRefusal s ws)) .reply .count ≤ room
+    go true = delivered-room s (outcome s ws) room
+    go false = omega arith
 
 pub refusals-change-nothing : RefusalsChangeNothing
 refusals-change-nothing s ws d =

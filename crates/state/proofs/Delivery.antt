@@ -4,9 +4,10 @@ use mathlib.Core.Path.{_≡_, refl, sym}
 use mathlib.Core.Bool.{Bool, true, false}
 use mathlib.Core.List.{List}
 use Prim.Native.Nat.{ℕ, _≤_, _<_}
-use lib.Dec.{ltb, eqb}
+use lib.Dec.{ltb}
 use lib.ListN.{length}
-use borrow.Author.Tests.{lt-ltb, le-ltb}
+use native.Mathlib.Omega.{arith}
+use borrow.Author.Tests.{lt-ltb, le-ltb, ltb-false}
 use Rattle.words.specs.Choice.{if_then_else_}
 use Rattle.words.specs.Buffers.{over}
 use Rattle.words.proofs.Overs.{over-none}
@@ -55,3 +56,12 @@ delivered-number s o room = go (ltb room (length (o .words)))
     go : (b : Bool) → (if b then refused s 6 else done o) .reply .refusal ≡ (if b then 6 else 0)
     go true = refl
     go false = refl
+
+-- no more words than the buffer has are counted
+pub delivered-room : (s : State) (o : Outcome) (room : ℕ) → delivered s o room .reply .count ≤ room
+unfolding delivered
+delivered-room s o room = go (ltb room (length (o .words))) refl
+  where
+    go : (b : Bool) → ltb room (length (o .words)) ≡ b → (if b then refused s 6 else done o) .reply .count ≤ room
+    go true e = omega arith
+    go false e = ltb-false room (length (o .words)) e

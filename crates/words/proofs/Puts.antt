@@ -1,12 +1,12 @@
 -- A buffer that holds words over its front, with one write more: at a place, or by a writer that is lent the rest of it.
-use mathlib.Core.Path.{_≡_, refl, sym, ap, _∙_}
+use mathlib.Core.Path.{_≡_, refl, sym, _∙_}
 use mathlib.Core.List.{List, [], _∷_, _++_, append-assoc, append-nil}
-use Prim.Native.Nat.{ℕ, zero, suc, _+_, _-_, _≤_, _<_}
-use native.Mathlib.Nat.{add-zero, add-suc}
+use Prim.Native.Nat.{ℕ, zero, suc, _+_, _-_, _*_, _≤_, _<_}
+use native.Mathlib.Nat.{add-zero, add-suc, zero-mul, suc-mul}
 use native.Mathlib.Numerals.{add-one}
 use native.Mathlib.Omega.{arith}
-use lib.ListN.{length, take, drop, set, length-append, length-drop, length-take, take-append-drop, drop-of-length-le}
-use lib.Seq.{take-all, length-take-le, take-at, drop-at, drop-drop, set-split}
+use lib.ListN.{length, take, drop, getD, set, length-append, length-drop, length-take, take-append-drop, drop-of-length-le}
+use lib.Seq.{take-all, take-suc, length-take-le, take-at, drop-at, drop-drop, set-split}
 use Rattle.words.specs.Buffers.{over, Wrote, Put, inTurn}
 
 -- nothing is written yet
@@ -111,3 +111,42 @@ turn-room f i n h =
     let e : i + 1 + (n - (i + 1)) ≡ n = omega arith in
     let m : length (inTurn f i ++ f i) ≤ length (inTurn f n) = rw (e, turn-more) at (turns-grow f (i + 1) (n - (i + 1))) in
     rw length-append at m
+
+-- blocks of one length
+pub turns-long : (f : ℕ → List ℕ) (m : ℕ) → ((k : ℕ) → length (f k) ≡ m) → (n : ℕ) → length (inTurn f n) ≡ n * m
+unfolding inTurn
+turns-long f m same zero = rw zero-mul
+turns-long f m same (suc n) = rw (length-append, turns-long f m same n, same n, suc-mul)
+
+-- a loop that puts blocks in turn, from a place on
+pub turns-none : (f : ℕ → List ℕ) (d : List ℕ) (at : ℕ) → Put (inTurn f 0) d at d at
+unfolding inTurn
+turns-none f d at = put-none d at
+
+module _ (f : ℕ → List ℕ) (n : ℕ) {d₀ d : List ℕ} {at i to : ℕ} (all : at + length (inTurn f n) ≤ length d₀) (so-far : Put (inTurn f i) d₀ at d to) where
+  pub turn-fits : i < n → to + length (f i) ≤ length d
+  turn-fits h = put-room (omega arith) so-far (f i) (omega (arith, turn-room f i n h))
+
+  pub turn-put : {d' : List ℕ} {r : ℕ} → Put (f i) d to d' r → Put (inTurn f (i + 1)) d₀ at d' r
+  turn-put p = rw turn-more (put-then (omega arith) so-far p)
+
+  pub turns-all : i ≤ n → n ≤ i → Put (inTurn f n) d₀ at d to
+  turns-all h k =
+      let same : n ≡ i = omega arith in
+      rw same so-far
+
+-- a loop that puts the elements of a list, from a place on
+pub list-none : (l d : List ℕ) (at : ℕ) → Put (take 0 l) d at d at
+list-none l d at = put-none d at
+
+module _ (l : List ℕ) (i : ℕ) {d₀ d : List ℕ} {at to : ℕ} (all : at + length l ≤ length d₀) (so-far : Put (take i l) d₀ at d to) where
+  pub list-fits : i < length l → to < length d
+  list-fits h =
+      let n : length (take i l) ≡ i = length-take-le i l (omega arith) in
+      omega (arith, put-room (omega arith) so-far (0 ∷ []) (omega arith))
+
+  pub list-put : i < length l → {d' : List ℕ} {r : ℕ} → Put (getD l i 0 ∷ []) d to d' r → Put (take (i + 1) l) d₀ at d' r
+  list-put h p = rw (add-one, take-suc l i 0 h) (put-then (omega arith) so-far p)
+
+  pub list-all : length l ≤ i → Put l d₀ at d to
+  list-all h = rw (take-all i l h) at so-far
