@@ -7,7 +7,7 @@ ghost use Rattle.dialogue.specs.Records.{recordWord, Taken};
 use crate::Record;
 
 // The count that a byte holds.
-fn count(byte: u8) -> usize
+pub(crate) fn count(byte: u8) -> usize
     ensures { λ r. ⌜ (r ≡ byte) × (r < 256) ⌝ }
 {
     byte as usize

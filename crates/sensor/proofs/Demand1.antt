@@ -1,20 +1,24 @@
 -- Demand 1 for requests: a refusal changes nothing, each is given exactly then, and ranges are kept.
-use mathlib.Core.Path.{_≡_, refl, subst, _∙_}
+use mathlib.Core.Path.{_≡_, refl, sym, subst, _∙_}
 use mathlib.Core.Bool.{Bool, true, false, not, _&&_}
 use mathlib.Core.List.{List, [], _∷_}
 use Prim.Native.Nat.{ℕ, zero, suc, _≤_, _<_}
 use native.Mathlib.Omega.{arith}
 use lib.Dec.{T, ltb, eqb}
-use lib.ListN.{length, getD}
+use lib.ListN.{length, getD, take}
+use lib.Seq.{length-take-le, take-append-seam}
 use borrow.Author.Tests.{ne-eqb, eqb-true, ltb-true}
 use Rattle.words.specs.Choice.{if_then_else_}
 use Rattle.words.specs.Lists.{some, every, areWords, firstOf}
+use Rattle.words.specs.Buffers.{over}
+use Rattle.words.proofs.Overs.{over-length}
 use Rattle.words.proofs.Tests.{and-l, and-r, is-true}
 use Rattle.state.specs.declared.State.{State}
 use Rattle.state.specs.declared.Mode.{Mode}
 use Rattle.state.specs.declared.Mode.the-variants.{Idle, Rotate, Measure}
 use Rattle.state.specs.Ranges.{inRange}
-use Rattle.state.specs.Replies.{Outcome, Result, refused, delivered, Unchanged}
+use Rattle.state.specs.declared.Reply.{Reply}
+use Rattle.state.specs.Replies.{Outcome, Result, refused, delivered, Answered, Unchanged}
 use Rattle.state.proofs.Delivery.{refused-unchanged, done, delivered-by, delivered-number, delivered-room}
 use Rattle.state.proofs.Parts.{Parts, parts, whole}
 use Rattle.services.specs.Answers.{answer}
@@ -43,6 +47,25 @@ requested-room s ws room = go (eqb (requestRefusal s ws) 0)
     go : (b : Bool) → (if b then delivered s (outcome s ws) room else refused s (requestRefusal s ws)) .reply .count ≤ room
     go true = delivered-room s (outcome s ws) room
     go false = omega arith
+
+-- the words written are counted
+requested-count : (s : State) (ws : List ℕ) (room : ℕ) → requested s ws room .reply .count ≡ length (requested s ws room .written)
+requested-count s ws room = requested-by (λ x. x .reply .count ≡ length (x .written)) s ws room (λ _. refl) (λ _. refl)
+
+-- what a caller finds in its buffer: the answer's words, as many as are counted, and no more than it has
+module _ (r : Reply) (d d′ : List ℕ) (s : State) (ws : List ℕ) (a : Answered r d d′ (requested s ws (length d))) where
+  fits : length (requested s ws (length d) .written) ≤ length d
+  fits = rw (← requested-count s ws (length d)) (requested-room s ws (length d))
+
+  pub answer-within : r .count ≤ length d′
+  answer-within = rw (a .reply, a .buffer, over-length _ d fits) (requested-room s ws (length d))
+
+  pub answer-counted : r .count ≡ length (take (r .count) d′)
+  answer-counted = sym (length-take-le (r .count) d′ answer-within)
+
+  pub answer-words : take (r .count) d′ ≡ requested s ws (length d) .written
+  unfolding over
+  answer-words = rw (a .reply, a .buffer, requested-count s ws (length d)) (take-append-seam _ _)
 
 pub refusals-change-nothing : RefusalsChangeNothing
 refusals-change-nothing s ws d =

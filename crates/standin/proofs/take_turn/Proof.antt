@@ -1,0 +1,30 @@
+use mathlib.Core.Path.{sym}
+use lib.Seq.{length-take-le}
+use borrow.Author.Needs.{needs}
+use Rattle.standin.proofs.take_turn.Statement.{statement}
+use Rattle.standin.proofs.take_turn.Tie as tie
+
+slice-aggregate-answer-block : tie.Need-slice-aggregate-answer-block
+slice-aggregate-answer-block c = sym (length-take-le (c .before .before .before .args .have) (c .before .before .before .args .bytes .now) (c .before .before .before .pre))
+
+slice-aggregate-write-all : tie.Need-slice-aggregate-write-all
+slice-aggregate-write-all c = sym (length-take-le (c .before .before .before .before .before .answer-block .result .filled) _ (search needs))
+
+pub take-turn-spec : {M : Type 1} → statement M
+take-turn-spec =
+    tie.close
+    (tie.spec
+    (λ c. search needs)
+    slice-aggregate-answer-block
+    (λ c κs. search needs)
+    (λ c. search needs)
+    slice-aggregate-write-all
+    (λ c κs. search needs)
+    (λ c κs. search needs)
+    (λ c. search needs)
+    (λ c. search needs)
+    (λ c. search needs)
+    (λ c κs. search needs)
+    (λ c. search needs)
+    (λ c. search needs)
+    (λ c. search needs))
