@@ -3,10 +3,7 @@ use mathlib.Core.List.{List, [], _∷_, _++_}
 use Prim.Native.Nat.{ℕ, zero, suc, _<_}
 use native.Mathlib.Omega.{arith}
 use lib.ListN.{length, getD}
-
-pub data Each {A : Type 0} (P : A → Type 0) : List A → Type 0 where
-  none : Each P []
-  this : {x : A} {xs : List A} → P x → Each P xs → Each P (x ∷ xs)
+use Rattle.words.specs.Lists.{Each, none, this}
 
 pub each-append : {A : Type 0} {P : A → Type 0} {l m : List A} → Each P l → Each P m → Each P (l ++ m)
 each-append none b = b

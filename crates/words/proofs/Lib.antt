@@ -3,3 +3,8 @@ pub mod Arrays
 pub mod Each
 pub mod Overs
 pub mod Puts
+pub mod BitLaws
+pub mod Takes
+pub mod Lawful
+pub mod Formats
+pub mod Tracks

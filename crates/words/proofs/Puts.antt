@@ -92,6 +92,11 @@ module _ {d : List ℕ} {at : ℕ} (inside : at ≤ length d) where
       let e : length (take at d) ≡ at = length-take-le at d inside in
       room (and-put at-place p) vs (rw (length-append, e) h)
 
+  -- a write by a writer that was lent the rest, from a place on
+  pub lent-put : {ws part : List ℕ} {n : ℕ} → Wrote ws (take (length d - at) (drop at d)) part n
+      → Put ws d at (take at d ++ (part ++ drop (length d - at) (drop at d))) (at + n)
+  lent-put w = as-put (and-lent at-place w)
+
 -- a put at the start is a write of the front
 pub put-first : {ws d d' : List ℕ} {r : ℕ} → Put ws d 0 d' r → Wrote ws d d' r
 put-first p = and-put (none-yet _) p

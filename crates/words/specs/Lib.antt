@@ -1,5 +1,11 @@
+-- Plain definitions
 pub mod Choice
 pub mod Lists
 pub mod Bits
+pub mod Words
 pub mod Buffers
 pub mod Rows
+-- How lists of words are read: by places, by parsers, and by formats that also lay them out
+pub mod Places
+pub mod Parse
+pub mod Format

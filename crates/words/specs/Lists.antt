@@ -15,6 +15,11 @@ abbrev pub every : {A : Type 0} → (A → Bool) → List A → Bool
 every test [] = true
 every test (x ∷ xs) = test x && every test xs
 
+-- what holds of each one
+pub data Each {A : Type 0} (P : A → Type 0) : List A → Type 0 where
+  none : Each P []
+  this : {x : A} {xs : List A} → P x → Each P xs → Each P (x ∷ xs)
+
 -- how many pass the test
 abbrev pub count : {A : Type 0} → (A → Bool) → List A → ℕ
 count test [] = 0

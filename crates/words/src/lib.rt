@@ -1,21 +1,21 @@
 // 16-bit words, and lists of them.
-ghost use mathlib.Core.Path.{_≡_};
-ghost use Prim.Native.Nat.{_*_};
-ghost use lib.ListN.{getD};
+mod optional;
+mod plain;
 
-// Two words multiplied, with nothing cut off.
-pub fn product(a: u16, b: u16) -> u32
-    ensures { λ r. ⌜ r ≡ a * b ⌝ }
-{
-    (a as u32) * (b as u32)
+pub use optional::skip;
+pub use optional::take_word;
+pub use plain::product;
+pub use plain::word_at;
+
+// A word that is there, or is left out.
+pub enum Word {
+    Absent,
+    Given(u16),
 }
 
-// The word at a place, 0 past the end.
-pub fn word_at(words: &[u16], place: usize) -> u16
-    ensures { λ r. ⌜ r ≡ getD (now (words .entry)) place 0 ⌝ }
-{
-    if place < words.len() {
-        return words[place];
-    }
-    0
+// A word that was taken from a place, and the place behind it. A place one past the end says that the words have ended early, and
+// stays so.
+pub struct Took {
+    pub word: Word,
+    pub at: usize,
 }

@@ -1,8 +1,8 @@
 use borrow.Author.Needs.{needs}
 use mathlib.Core.Path.{sym}
 use lib.ListN.{List·getD-eq-default}
-use Rattle.words.proofs.word_at.Statement.{statement}
-use Rattle.words.proofs.word_at.Tie as tie
+use Rattle.words.proofs.plain.word_at.Statement.{statement}
+use Rattle.words.proofs.plain.word_at.Tie as tie
 
 pub word-at-spec : {M : Type 1} → statement M
 word-at-spec =

@@ -1,0 +1,51 @@
+-- A word taken from a place, and words passed over: what each way out gives, and that the place stays within one past the end.
+use mathlib.Core.Path.{_≡_, refl}
+use mathlib.Core.Bool.{Bool, true, false}
+use mathlib.Core.List.{List}
+use Prim.Native.Nat.{ℕ, _+_, _-_, _≤_, _<_}
+use native.Mathlib.Omega.{arith}
+use lib.Dec.{ltb}
+use lib.ListN.{length, getD}
+use borrow.Author.Tests.{lt-ltb, le-ltb, ltb-true, ltb-false}
+use Rattle.words.specs.Choice.{if_then_else_}
+use Rattle.words.specs.declared.Word.the-variants.{Absent, Given}
+use Rattle.words.specs.declared.Took.{Took}
+use Rattle.words.specs.Places.{takeAt, skipAt}
+
+module _ (on : Bool) (ws : List ℕ) (at : ℕ) where
+  pub take-there : on ≡ true → at < length ws → record { word = Given (getD ws at 0); at = at + 1 } ≡ takeAt on ws at
+  unfolding takeAt
+  take-there e h = rw (e, lt-ltb at (length ws) h)
+
+  pub take-ended : on ≡ true → length ws ≤ at → record { word = Absent; at = length ws + 1 } ≡ takeAt on ws at
+  unfolding takeAt
+  take-ended e h = rw (e, le-ltb at (length ws) h)
+
+  pub take-off : on ≡ false → record { word = Absent; at = at } ≡ takeAt on ws at
+  unfolding takeAt
+  take-off e = rw e
+
+-- the place behind a word, and behind n words
+pub take-within : (on : Bool) (ws : List ℕ) (at : ℕ) → at ≤ length ws + 1 → takeAt on ws at .at ≤ length ws + 1
+unfolding takeAt
+take-within false ws at h = h
+take-within true ws at h = go (ltb at (length ws)) refl
+  where
+    go : (t : Bool) → ltb at (length ws) ≡ t
+        → if_then_else_ {A = Took} t (record { word = Given (getD ws at 0); at = at + 1 }) (record { word = Absent; at = length ws + 1 }) .at ≤ length ws + 1
+    go true e = omega (arith, ltb-true at (length ws) e)
+    go false e = omega arith
+
+pub skip-within : (n : ℕ) (ws : List ℕ) (at : ℕ) → skipAt n ws at ≤ length ws + 1
+unfolding skipAt
+skip-within n ws at = go (ltb (length ws) at) (ltb (length ws - at) n) refl refl
+  where
+    go : (t u : Bool) → ltb (length ws) at ≡ t → ltb (length ws - at) n ≡ u
+        → (if t then length ws + 1 else if u then length ws + 1 else at + n) ≤ length ws + 1
+    go true u e f = omega arith
+    go false true e f = omega arith
+    go false false e f = omega (arith, ltb-false (length ws) at e, ltb-false (length ws - at) n f)
+
+-- the same of what a reader holds
+pub took-within : (on : Bool) (ws : List ℕ) (at : ℕ) (r : Took) → r ≡ takeAt on ws at → at ≤ length ws + 1 → r .at ≤ length ws + 1
+took-within on ws at r e h = rw e (take-within on ws at h)
