@@ -1,1 +1,5 @@
+-- To be read in this order.
 pub mod Masks
+pub mod Fields
+pub mod Layout
+pub mod Lengths

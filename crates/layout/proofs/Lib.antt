@@ -1,0 +1,2 @@
+pub mod LayoutLengths
+pub mod GreatestLength
