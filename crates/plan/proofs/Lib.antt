@@ -8,6 +8,7 @@ pub mod Tiling
 pub mod Rounds
 pub mod PlanRows
 pub mod EntrySet
+pub mod RangeValid
 -- The functions
 pub mod Walk
 pub mod ArcSums

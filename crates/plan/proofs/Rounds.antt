@@ -9,8 +9,8 @@ use lib.Dec.{leb}
 use lib.ListN.{length, getD, List·getD-map}
 use borrow.Author.Tests.{le-leb, lt-leb, leb-false}
 use Rattle.words.specs.Choice.{if_then_else_}
-use Rattle.words.specs.Lists.{some, total}
-use Rattle.words.proofs.Each.{Each, none, this, each-append, each-from, each-at, each-map}
+use Rattle.words.specs.Lists.{Each, none, this, some, total}
+use Rattle.words.proofs.Each.{each-append, each-from, each-at, each-map}
 use Rattle.units.specs.Directions.{stepAfter, shotsTo, revolutionShots}
 use Rattle.plan.specs.declared.Sector.{Sector}
 use Rattle.plan.specs.declared.Plan.{Plan}

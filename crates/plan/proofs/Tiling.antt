@@ -1,12 +1,13 @@
 -- The arcs tile the run: where each one's shots stand in it, and how many shots of a function there are.
 use mathlib.Core.Path.{_≡_, refl, sym, ap, _∙_}
-use mathlib.Core.Bool.{Bool, true, false}
+use mathlib.Core.Bool.{Bool, true, false, _||_}
 use mathlib.Core.List.{List, [], _∷_, _++_, append-assoc}
 use Prim.Native.Nat.{ℕ, zero, suc, _+_, _*_, _%_, _≤_, _<_}
 use native.Mathlib.Nat.{zero-add, add-zero, add-assoc}
 use native.Mathlib.Omega.{arith}
 use lib.Dec.{eqb}
 use lib.ListN.{length, getD, take, drop, length-append}
+use borrow.Author.Tests.{eqb-true}
 use lib.Seq.{take-at, drop-at, getD-drop, getD-take}
 use Rattle.words.specs.Choice.{if_then_else_}
 use Rattle.words.specs.Lists.{count, total}
@@ -136,3 +137,31 @@ total-shots step (a ∷ l) =
     ap (λ (n : ℕ). a .shots + n) (total-shots step l)
     ∙ ap (λ (n : ℕ). n + length (sweeps step l)) (sym (shots-length step (a .shots) (a .first .0) (a .function)))
     ∙ sym (length-append (sweep step a) (sweeps step l))
+
+-- an arc that has points is of function 3, stands at an active sector's place, and each of its shots gives one
+pub record Pointed (a : Arc) : Type 0 where
+  pub function : a .function ≡ 3
+  pub points : a .points ≡ a .shots
+
+pub pointed : (step b k : ℕ) (ss : List Sector) (place i : ℕ) → i < getD (arcsFrom step b k ss) place noArc .points
+    → (place < length ss) × Pointed (getD (arcsFrom step b k ss) place noArc)
+pointed step b k [] place i h = absurd (omega arith)
+pointed step b k (s ∷ ss) zero i h = (omega arith, go (eqb (s .function) 3) refl h)
+  where
+    go : (x : Bool) → eqb (s .function) 3 ≡ x → i < (if x then shotsOf step b s else 0) → Pointed (arcOf step b k s)
+    go true e l = record { function = eqb-true _ _ e; points = rw e }
+    go false e l = absurd (omega arith)
+pointed step b k (s ∷ ss) (suc place) i h =
+    let r = pointed step (stopOf s) (k + shotsOf step b s) ss place i h in
+    (omega (arith, r .0), r .1)
+
+-- no more points than shots of functions 3 and 4
+pub points-lit : (step b k : ℕ) (ss : List Sector) → total (λ a. a .points) (arcsFrom step b k ss) ≤ shotsWith isLit (arcsFrom step b k ss)
+points-lit step b k [] = omega arith
+points-lit step b k (s ∷ ss) =
+    go (eqb (s .function) 3) (eqb (s .function) 4) (shotsOf step b s) (points-lit step (stopOf s) (k + shotsOf step b s) ss)
+  where
+    go : (x y : Bool) (n : ℕ) {p q : ℕ} → p ≤ q → (if x then n else 0) + p ≤ (if (x || y) then n else 0) + q
+    go true y n h = omega arith
+    go false true n h = omega arith
+    go false false n h = omega arith
