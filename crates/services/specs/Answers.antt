@@ -5,18 +5,12 @@ use mathlib.Core.List.{List, [], _∷_, _++_}
 use Prim.Native.Nat.{ℕ, _≤_}
 use lib.ListN.{length, take, replicate}
 use Rattle.state.specs.declared.State.{State}
-use Rattle.state.specs.declared.Mode.{Mode}
-use Rattle.state.specs.declared.Mode.the-variants.{Idle, Rotate, Measure}
+use Rattle.state.specs.Modes.{modeNumber}
 use Rattle.state.specs.Replies.{Outcome}
 use Rattle.services.specs.declared.Served.{Served}
 
 abbrev pub answer : State → List ℕ → Outcome
 answer s ws = record { after = s; words = ws }
-
-abbrev pub modeNumber : Mode → ℕ
-modeNumber Idle = 1
-modeNumber Rotate = 2
-modeNumber Measure = 3
 
 abbrev pub senstat : State → List ℕ
 senstat s = 0 ∷ modeNumber (s .mode) ∷ []

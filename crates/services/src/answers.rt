@@ -1,21 +1,9 @@
 // Short answers. The length of their array is said here and nowhere else.
 ghost use mathlib.Core.Path.{_≡_};
 ghost use mathlib.Core.List.{[], _∷_};
-ghost use Rattle.services.specs.Answers.{answer, modeNumber, answerStatus, Gives};
+ghost use Rattle.services.specs.Answers.{answer, answerStatus, Gives};
 use crate::Served;
-use state::Mode;
 use state::State;
-
-// SENSTAT's low word.
-pub fn mode_number(mode: Mode) -> u16
-    ensures { λ r. ⌜ r ≡ modeNumber mode ⌝ }
-{
-    match mode {
-        Mode::Idle => 1,
-        Mode::Rotate => 2,
-        Mode::Measure => 3,
-    }
-}
 
 pub(crate) fn no_word(state: State) -> Served
     ensures { λ r. ⌜ Gives r (answer state []) ⌝ }
@@ -72,7 +60,7 @@ pub(crate) fn answer_status(code: u16, state: State) -> Served
     ensures { λ r. ⌜ Gives r (answerStatus code state) ⌝ }
 {
     let mode = state.mode;
-    let low = mode_number(mode);
+    let low = state::mode_number(mode);
     Served {
         state,
         words: [code, 0, low, 0, 0],

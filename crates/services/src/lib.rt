@@ -8,7 +8,6 @@ mod measurement;
 mod status;
 mod working;
 
-pub use answers::mode_number;
 pub use configuration::get_config;
 pub use configuration::get_function;
 pub use configuration::set_config;

@@ -1,3 +1,4 @@
 pub mod InRange
 pub mod Delivery
 pub mod Parts
+pub mod Measuring

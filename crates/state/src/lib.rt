@@ -2,12 +2,15 @@
 use plan::Plan;
 use units::Angle;
 
+mod modes;
 mod ranges;
 mod setters;
 mod start;
 
+pub use modes::mode_number;
 pub use ranges::config_ok;
 pub use ranges::in_range;
+pub use ranges::is_measure;
 pub use ranges::speed_ok;
 pub use setters::with_config;
 pub use setters::with_drive;

@@ -50,7 +50,7 @@ fn drive_ok(mode: Mode, running: u16, working: Plan, step: Angle) -> bool
     }
 }
 
-fn is_measure(mode: Mode) -> bool
+pub fn is_measure(mode: Mode) -> bool
     ensures { λ r. ⌜ r ≡ isMeasure mode ⌝ }
 {
     match mode {
