@@ -1,0 +1,132 @@
+-- What stands behind the first three words: its format is lawful, and reading it by places is reading it.
+use Prim.Native.Nat.{ℕ, _+_, _%_, _≤_, _<_}
+use mathlib.Core.Path.{_≡_, sym, _∙_, ap}
+use mathlib.Core.List.{List, []}
+use native.Mathlib.Nat.{zero-add}
+use native.Mathlib.Omega.{arith}
+use lib.Dec.{eqb}
+use lib.ListN.{length, drop, length-drop, drop-of-length-le}
+use lib.Seq.{drop-cons}
+use borrow.Author.Tests.{le-leb, lt-leb}
+use Rattle.words.specs.declared.Word.the-variants.{Given}
+use Rattle.words.specs.declared.Took.{Took}
+use Rattle.words.specs.Bits.{bit}
+use Rattle.words.specs.Parse.{Got, short, got}
+use Rattle.words.specs.Places.{takeAt}
+use Rattle.words.specs.Format.{Format, times}
+use Rattle.words.proofs.BitLaws.{bit-zero}
+use Rattle.words.proofs.Lawful.{Lawful, SoundOf, KeptOf, nothing-lawful}
+use Rattle.words.proofs.Formats.{optional-lawful, join-lawful, times-lawful}
+use Rattle.words.proofs.Tracks.{Tracks, outAt, in-out, past-out, nothing-tracks, optional-tracks, join-tracks}
+use Rattle.reader.specs.declared.SectorReading.{SectorReading}
+use Rattle.reader.specs.declared.Sectors.{Sectors}
+use Rattle.reader.specs.Sectors.{sector}
+use Rattle.reader.specs.Readings.{Body, body, refusedReading, ended}
+use Rattle.reader.specs.Steps.{valueOf, placeOf, fromPlace, sectorsOf}
+use Rattle.reader.proofs.SectorPlaces.{sector-lawful}
+
+pub sectors-lawful : (mask count : ℕ) → Lawful (times count (sector mask))
+sectors-lawful mask count = times-lawful (sector mask) (sector-lawful mask) count
+
+pub body-lawful : (mask count : ℕ) → Lawful (body mask count)
+body-lawful mask count =
+    optional-lawful (bit mask 0) _ λ sent.
+    optional-lawful (bit mask 1) _ λ counter.
+    optional-lawful (bit mask 2) _ λ layer.
+    join-lawful _ _ (sectors-lawful mask count) (
+    optional-lawful (bit mask 13) _ λ high.
+    optional-lawful (bit mask 13) _ λ low.
+    nothing-lawful)
+
+-- any lawful format, read from a place
+module _ {A F : Type 0} (c : Format A F) (lawful : Lawful c) (d : A) (ws : List ℕ) (i : ℕ) where
+  found-out : i ≤ length ws → (g : Got A) → SoundOf c ws i g → KeptOf i (drop i ws) g → g ≡ outAt ws 0 (valueOf d g) (placeOf ws g)
+  found-out h short s k = sym (past-out ws 0 d (length ws + 1) (omega arith))
+  found-out h (got a b ws′) s k = sym (in-out ws 0 a b (omega (arith, length-drop i ws)) ∙ rw (zero-add b, s .rest))
+
+  found-tracks : Tracks c ws 0 i (valueOf d (fromPlace c ws i)) (placeOf ws (fromPlace c ws i))
+  found-tracks =
+      record {
+        reads = λ h. rw (zero-add i, le-leb i (length ws) h) (found-out h (c .parse i (drop i ws)) (lawful .sound ws i) (lawful .kept i (drop i ws)));
+        sticks = λ h. rw (lt-leb i (length ws) h) (omega arith);
+      }
+
+-- the steps of the reader, each from the place behind the one before
+pub record BodyWalk (mask count : ℕ) (ws : List ℕ) : Type 0 where
+  pub sent : Took
+  pub counter : Took
+  pub layer : Took
+  pub found : Sectors
+  pub high : Took
+  pub low : Took
+  pub is-sent : sent ≡ takeAt (eqb (mask % 2) 1) ws 3
+  pub is-counter : counter ≡ takeAt (bit mask 1) ws (sent .at)
+  pub is-layer : layer ≡ takeAt (bit mask 2) ws (counter .at)
+  pub is-found : found ≡ sectorsOf ws (fromPlace (times count (sector mask)) ws (layer .at))
+  pub is-high : high ≡ takeAt (bit mask 13) ws (found .at)
+  pub is-low : low ≡ takeAt (bit mask 13) ws (high .at)
+
+module _ (mask count : ℕ) (ws : List ℕ) (long : 3 ≤ length ws) where
+  -- the body by places, and the place behind it
+  unfoldable by-places : (a : Body SectorReading) × (j : ℕ) × Tracks (body mask count) ws 0 3 a j
+  by-places = (
+    _,
+    _,
+    optional-tracks (bit mask 0) _ _ _ _ _ _ λ sent i₁.
+        optional-tracks (bit mask 1) _ _ _ _ _ _ λ counter i₂.
+        optional-tracks (bit mask 2) _ _ _ _ _ _ λ layer i₃.
+        join-tracks _ _ (found-tracks (times count (sector mask)) (sectors-lawful mask count) [] ws i₃) (
+        optional-tracks (bit mask 13) _ _ _ _ _ _ λ high i₄.
+        optional-tracks (bit mask 13) _ _ _ _ _ _ λ low i₅.
+        nothing-tracks _ _ i₅),
+  )
+
+  read-by-places : body mask count .parse 3 (drop 3 ws) ≡ outAt ws 0 (by-places .0) (by-places .1)
+  read-by-places = by-places .2 .reads long
+
+  module _ (w : BodyWalk mask count ws) where
+    abbrev pub walked : Body SectorReading
+    walked = (w .sent .word, (w .counter .word, (w .layer .word, (valueOf [] (fromPlace (times count (sector mask)) ws (w .layer .at)), (w .high .word, (w .low .word, tt))))))
+
+    found : body mask count .parse 3 (drop 3 ws) ≡ outAt ws 0 walked (w .low .at)
+    unfolding by-places
+    found =
+        rw (
+          read-by-places,
+          bit-zero mask,
+          ← w .is-sent,
+          ← w .is-counter,
+          ← w .is-layer,
+          ← ap (λ (r : Sectors). r .at) (w .is-found),
+          ← w .is-high,
+          ← w .is-low,
+        )
+
+    -- the ways out, by the place behind the last word
+    pub end-short : length ws < w .low .at → refusedReading 15 ≡ ended mask count (body mask count .parse 3 (drop 3 ws))
+    end-short h = sym (ap (ended mask count) (found ∙ past-out ws 0 walked (w .low .at) h))
+
+    pub end-over : w .low .at < length ws → refusedReading 16 ≡ ended mask count (body mask count .parse 3 (drop 3 ws))
+    end-over h =
+        let whole : refusedReading 16 ≡ ended mask count (got walked (0 + w .low .at) (drop (w .low .at) ws)) = rw (drop-cons ws (w .low .at) 0 h) in
+        whole ∙ sym (ap (ended mask count) (found ∙ in-out ws 0 walked (w .low .at) (omega arith)))
+
+    pub end-exact : w .low .at ≤ length ws → length ws ≤ w .low .at
+        → record {
+          refusal = 0;
+          mask = Given mask;
+          sent = w .sent .word;
+          counter = w .counter .word;
+          layer = w .layer .word;
+          count = count;
+          sectors = w .found .list;
+          high = w .high .word;
+          low = w .low .word;
+        } ≡ ended mask count (body mask count .parse 3 (drop 3 ws))
+    end-exact h k =
+        rw (
+          ap (λ (r : Sectors). r .list) (w .is-found),
+          found,
+          in-out ws 0 walked (w .low .at) h,
+          drop-of-length-le ws k,
+        )

@@ -1,0 +1,9 @@
+pub mod Heads
+pub mod SectorPlaces
+pub mod Loops
+pub mod Bodies
+pub mod Readouts
+pub mod Accepted
+pub mod PointPlaces
+pub mod RoundTrip
+pub mod PointNumbers

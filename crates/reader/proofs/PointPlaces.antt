@@ -1,0 +1,77 @@
+-- Where the points of a sector stand: within the words given, and nowhere where the mask leaves them out.
+use Prim.Native.Nat.{ℕ, _+_, _-_, _≤_, _<_}
+use mathlib.Core.Path.{_≡_, subst}
+use mathlib.Core.List.{List, []}
+use native.Mathlib.Nat.{add-sub-cancel-left}
+use native.Mathlib.Omega.{arith}
+use lib.ListN.{length, getD, take, drop, replicate, length-drop, List·getD-append}
+use borrow.Author.Tests.{eq-eqb, ne-eqb, lt-ltb, le-ltb}
+use Rattle.words.proofs.Each.{each-at}
+use Rattle.words.proofs.Lawful.{InsideOf}
+use Rattle.reader.specs.declared.SectorReading.{SectorReading}
+use Rattle.reader.specs.declared.Reading.{Reading}
+use Rattle.reader.specs.Sectors.{blankSector}
+use Rattle.reader.specs.Readings.{body, readOf}
+use Rattle.reader.specs.Stretches.{stretchRefusalOf, stretchOf}
+use Rattle.reader.proofs.Bodies.{body-lawful}
+use Rattle.reader.proofs.Accepted.{maskIn, countIn, Accepted, accepted, has-sector, many-sectors}
+
+-- the reading has a sector at the place
+module _ (ws : List ℕ) (place : ℕ) (here : place < readOf ws .count) where
+  pub whole : Accepted ws
+  whole = accepted ws (has-sector ws (omega arith))
+
+  abbrev pub found : List SectorReading
+  found = whole .value .1 .1 .1 .0
+
+  below : place < countIn ws
+  below = rw (whole .reading) at here
+
+  pub read-there : place < length found
+  read-there = omega (arith, below, many-sectors ws whole)
+
+  -- it is the one that was read there
+  pub at-place : getD (readOf ws .sectors) place blankSector ≡ getD found place blankSector
+  at-place = rw (whole .reading) (List·getD-append found (replicate (8 - length found) blankSector) blankSector place read-there)
+
+  in-eight : place < 8
+  in-eight = omega (arith, below, whole .head .few)
+
+  pub in-words : getD (readOf ws .sectors) place blankSector .start + getD (readOf ws .sectors) place blankSector .len ≤ length ws
+  in-words =
+      let n = 3 + length (drop 3 ws) in
+      let all : body (maskIn ws) (countIn ws) .inside n (whole .value) =
+      subst (InsideOf (body (maskIn ws) (countIn ws)) n) (whole .parsed) (body-lawful (maskIn ws) (countIn ws) .within 3 (drop 3 ws)) in
+      let e : getD found place blankSector .start + getD found place blankSector .len ≤ n = each-at blankSector place (all .1 .1 .1 .0) read-there .1 .1 .1 .1 .1 .0 in
+      rw at-place (omega (arith, length-drop 3 ws, whole .head .long))
+
+-- the same of what a reader holds
+module _ (ws : List ℕ) (place : ℕ) (r : Reading) (is : r ≡ readOf ws) where
+  pub below-eight : place < r .count → place < 8
+  below-eight h = in-eight ws place (rw is at h)
+
+  pub ends : place < r .count → getD (r .sectors) place blankSector .start + getD (r .sectors) place blankSector .len ≤ length ws
+  ends h = rw is (in-words ws place (rw is at h))
+
+  -- the stretch, as `&words[start..start + len]` lends it
+  pub stretch-is : place < r .count
+      → (let s = getD (r .sectors) place blankSector in take (s .start + s .len - s .start) (drop (s .start) ws)) ≡ stretchOf ws place
+  unfolding stretchOf
+  stretch-is h = rw (← is, lt-ltb place (r .count) h, add-sub-cancel-left)
+
+  pub no-stretch : r .count ≤ place → [] ≡ stretchOf ws place
+  unfolding stretchOf
+  no-stretch h = rw (← is, le-ltb place (r .count) h)
+
+  -- the number for no of a stretch
+  pub refused-reading : (r .refusal ≡ 0 → ⊥) → r .refusal ≡ stretchRefusalOf ws place
+  unfolding stretchRefusalOf
+  refused-reading h = rw (← is, ne-eqb (r .refusal) 0 h)
+
+  pub has-stretch : r .refusal ≡ 0 → place < r .count → 0 ≡ stretchRefusalOf ws place
+  unfolding stretchRefusalOf
+  has-stretch e h = rw (← is, eq-eqb (r .refusal) 0 e, lt-ltb place (r .count) h)
+
+  pub past-sectors : r .refusal ≡ 0 → r .count ≤ place → 17 ≡ stretchRefusalOf ws place
+  unfolding stretchRefusalOf
+  past-sectors e h = rw (← is, eq-eqb (r .refusal) 0 e, le-ltb place (r .count) h)

@@ -1,0 +1,75 @@
+-- `read_body`: the words taken are a walk of the body, and each way out is by its law.
+use Prim.Native.Nat.{_%_}
+use mathlib.Core.Path.{_∙_}
+use lib.ListN.{getD}
+use denote.Ref.{now}
+use borrow.Author.Needs.{needs}
+use Rattle.words.proofs.Takes.{took-within}
+use Rattle.reader.specs.Readings.{bodyOf}
+use Rattle.reader.proofs.Heads.{head-long, head-has, head-few, head-behind}
+use Rattle.reader.proofs.Bodies.{BodyWalk, end-short, end-over, end-exact}
+use Rattle.reader.proofs.body.read_body.Statement.{statement}
+use Rattle.reader.proofs.body.read_body.Tie as tie
+
+-- the start of the function, from the place behind the last word taken
+abbrev start : tie.After-take-word5 → tie.Start
+start t = t .before .before .before .before .before .before .before .before .before
+
+-- the words taken, with what each call says
+abbrev walk : (t : tie.After-take-word5) → let ws = now (start t .args .words) in BodyWalk (getD ws 1 0) (getD ws 2 0 % 256) ws
+walk t =
+    record {
+      sent = _;
+      counter = _;
+      layer = _;
+      found = _;
+      high = _;
+      low = _;
+      is-sent = t .before .before .before .before .before .take-word .ensures;
+      is-counter = t .before .before .before .before .take-word2 .ensures;
+      is-layer = t .before .before .before .take-word3 .ensures;
+      is-found = t .before .before .read-sectors .ensures .is;
+      is-high = t .before .take-word4 .ensures;
+      is-low = t .take-word5 .ensures;
+    }
+
+short : tie.Need-returns
+unfolding bodyOf
+short c =
+    let t = c .before .before .before in
+    c .refused .ensures ∙ end-short _ _ _ (head-long _ (start t .pre)) (walk t) (c .before .if1 .taken)
+
+over : tie.Need-returns-2
+unfolding bodyOf
+over c =
+    let t = c .before .before .before .before .before in
+    c .refused2 .ensures ∙ end-over _ _ _ (head-long _ (start t .pre)) (walk t) (c .before .if2 .taken)
+
+exact : tie.Need-returns-3
+unfolding bodyOf
+exact c =
+    let t = c .before .before .before .before .before in
+    end-exact _ _ _ (head-long _ (start t .pre)) (walk t) (c .before .before .before .if1 .left) (c .before .if2 .left)
+
+pub read-body-spec : {M : Type 1} → statement M
+read-body-spec =
+    tie.close
+    (tie.spec
+    (λ c. search (needs, head-has))
+    (λ c. search (needs, head-has))
+    (λ c. search needs)
+    (λ c κs. search needs)
+    (λ c κs. search needs)
+    (λ c κs. search needs)
+    (λ c κs. (
+      took-within _ _ _ _ (c .take-word3 .ensures)
+          (took-within _ _ _ _ (c .before .take-word2 .ensures) (took-within _ _ _ _ (c .before .before .take-word .ensures) (search head-behind))),
+      search head-few,
+    ))
+    (λ c κs. search needs)
+    (λ c κs. search needs)
+    (λ c κs. search needs)
+    short
+    (λ c κs. search needs)
+    over
+    exact)

@@ -1,0 +1,25 @@
+-- `head_refusal`: each way out by its law.
+use borrow.Author.Needs.{needs}
+use Rattle.words.proofs.Tests.{said-no, said-yes}
+use Rattle.reader.proofs.Heads.{empty, another, too-few, bad-mask, bad-count, no-number, passed}
+use Rattle.reader.proofs.head.head_refusal.Statement.{statement}
+use Rattle.reader.proofs.head.head_refusal.Tie as tie
+
+pub head-refusal-spec : {M : Type 1} → statement M
+head-refusal-spec =
+    tie.close
+    (tie.spec
+    (λ c. search empty)
+    (λ c. search needs)
+    (λ c. search another)
+    (λ c. search too-few)
+    (λ c. search needs)
+    (λ c κs. search needs)
+    (λ c. search (bad-mask, said-no))
+    (λ c. search needs)
+    (λ c κs. search needs)
+    (λ c. search (bad-count, said-no, said-yes))
+    (λ c. search needs)
+    (λ c κs. search needs)
+    (λ c. search (no-number, said-yes))
+    (λ c. search (passed, said-yes)))

@@ -1,0 +1,75 @@
+// A whole profile.
+ghost use mathlib.Core.Path.{_≡_};
+ghost use Rattle.reader.specs.Readings.{headRefusal, refusedReading, bodyOf, readOf};
+use crate::Reading;
+use crate::head::head_refusal;
+use crate::sector::blank;
+use crate::sector::read_sectors;
+use words::Word;
+use words::take_word;
+
+// A refused reading: every field absent.
+fn refused(refusal: u16) -> Reading
+    ensures { λ r. ⌜ r ≡ refusedReading refusal ⌝ }
+{
+    Reading {
+        refusal,
+        mask: Word::Absent,
+        sent: Word::Absent,
+        counter: Word::Absent,
+        layer: Word::Absent,
+        count: 0,
+        sectors: [blank(); 8],
+        high: Word::Absent,
+        low: Word::Absent,
+    }
+}
+
+// What stands behind the first three words: refusals 15 and 16, or the reading.
+fn read_body(words: &[u16]) -> Reading
+    requires { ⌜ headRefusal (now words) ≡ 0 ⌝ }
+    ensures { λ r. ⌜ r ≡ bodyOf (now (words .entry)) ⌝ }
+{
+    let mask = words[1];
+    let count = (words[2] % 256) as usize;
+    let sent = take_word(words, 3, mask % 2 == 1);
+    let counter = take_word(words, sent.at, mask / 2 % 2 == 1);
+    let layer = take_word(words, counter.at, mask / 4 % 2 == 1);
+    let found = read_sectors(words, mask, count, layer.at);
+    let high = take_word(words, found.at, mask / 8192 % 2 == 1);
+    let low = take_word(words, high.at, mask / 8192 % 2 == 1);
+    if words.len() < low.at {
+        return refused(15);
+    }
+    if low.at < words.len() {
+        return refused(16);
+    }
+    let sent_word = sent.word;
+    let counter_word = counter.word;
+    let layer_word = layer.word;
+    let sectors = found.list;
+    let high_word = high.word;
+    let low_word = low.word;
+    Reading {
+        refusal: 0,
+        mask: Word::Given(mask),
+        sent: sent_word,
+        counter: counter_word,
+        layer: layer_word,
+        count,
+        sectors,
+        high: high_word,
+        low: low_word,
+    }
+}
+
+// Reads a profile.
+pub fn read(words: &[u16]) -> Reading
+    ensures { λ r. ⌜ r ≡ readOf (now (words .entry)) ⌝ }
+{
+    let refusal = head_refusal(words);
+    if refusal != 0 {
+        return refused(refusal);
+    }
+    read_body(words)
+}

@@ -1,0 +1,49 @@
+// The host's reader of profiles: it knows the layout, and no sensor.
+use words::Word;
+
+mod body;
+mod head;
+mod sector;
+mod stretches;
+
+pub use body::read;
+pub use stretches::stretch;
+pub use stretches::stretch_refusal;
+
+// A sector's words, each marked absent where the mask leaves it out, and where its points stand in the words given.
+pub struct SectorReading {
+    pub number: Word,
+    pub step: Word,
+    pub points: Word,
+    pub tstart: Word,
+    pub startdir: Word,
+    pub start: usize,
+    pub len: usize,
+    pub tend: Word,
+    pub enddir: Word,
+}
+
+// A profile's words: the number for no, the head, how many sectors there are, the sectors, SENSTAT.
+pub struct Reading {
+    pub refusal: u16,
+    pub mask: Word,
+    pub sent: Word,
+    pub counter: Word,
+    pub layer: Word,
+    pub count: usize,
+    pub sectors: [SectorReading; 8],
+    pub high: Word,
+    pub low: Word,
+}
+
+// What reading a sector finds: that the words end early, or the sector and the place behind it.
+pub enum Step {
+    Cut,
+    Whole(SectorReading, usize),
+}
+
+// What reading the sectors finds: the place behind them, one past the end where the words end early, and the sectors.
+pub struct Sectors {
+    pub at: usize,
+    pub list: [SectorReading; 8],
+}
