@@ -1,0 +1,13 @@
+-- The theorems
+pub mod ProfileLengths
+pub mod Revolved
+pub mod Carried
+pub mod PointByPoint
+pub mod ProfileRows
+-- The functions
+pub mod PointSums
+pub mod Writing
+pub mod SectorTurns
+pub mod WholeProfile
+pub mod Turning
+pub mod Sending

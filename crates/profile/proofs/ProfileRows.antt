@@ -1,0 +1,17 @@
+-- The P rows of profiles: computed.
+use mathlib.Core.Path.{refl}
+use Rattle.words.specs.Buffers.{inTurn}
+use Rattle.plan.specs.Sectors.{isStep, entryInRange, planInRange}
+use Rattle.plan.specs.Checks.{litShots, measureError}
+use Rattle.layout.specs.Masks.{maskOk}
+use Rattle.layout.specs.Lengths.{profileLength}
+use Rattle.state.specs.Ranges.{configOk, inRange}
+use Rattle.state.specs.Replies.{delivered}
+use Rattle.profile.specs.Points.{pointWords}
+use Rattle.profile.specs.Profiles.{pointsOf}
+use Rattle.profile.specs.Revolutions.{revolved, revolutionRefusal, revolution}
+use Rattle.profile.specs.Figures.{ProfileFigures}
+
+pub profile-figures : ProfileFigures
+unfolding revolution delivered revolutionRefusal revolved inRange configOk isStep entryInRange planInRange litShots measureError maskOk pointsOf pointWords inTurn profileLength
+profile-figures = refl

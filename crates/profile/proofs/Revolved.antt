@@ -1,0 +1,90 @@
+-- Demand 1 of revolutions: a refusal changes nothing, each is given exactly then, and ranges are kept.
+use mathlib.Core.Path.{_≡_, refl, _∙_}
+use mathlib.Core.Bool.{Bool, true, false, not, _&&_}
+use mathlib.Core.List.{List}
+use Prim.Native.Nat.{ℕ, suc, _+_, _-_, _≤_, _<_}
+use native.Mathlib.Omega.{arith}
+use lib.Dec.{T, leb, ltb, eqb, le→leb, leb→le}
+use lib.ListN.{length}
+use borrow.Author.Tests.{eqb-true, eqb-false}
+use Rattle.words.specs.Choice.{if_then_else_}
+use Rattle.words.proofs.Tests.{and-l, and-r, and-both}
+use Rattle.layout.specs.Masks.{maskOk}
+use Rattle.state.specs.declared.State.{State}
+use Rattle.state.specs.declared.Mode.{Mode}
+use Rattle.state.specs.declared.Job.{Job}
+use Rattle.state.specs.declared.Job.the-variants.{Absent, Counted, Endless}
+use Rattle.state.specs.Ranges.{isMeasure, jobOk, inRange}
+use Rattle.state.specs.Replies.{Result, refused, delivered, Unchanged}
+use Rattle.state.proofs.Delivery.{refused-unchanged, done, delivered-by, delivered-number}
+use Rattle.state.proofs.Parts.{Parts, parts, whole}
+use Rattle.profile.specs.Profiles.{Given}
+use Rattle.profile.specs.Revolutions.{jobAfter, turned, revolved, revolutionRefusal, revolution}
+use Rattle.profile.specs.Demands.{RefusalsChangeNothing, listsFit, RefusalsExactly, RangesKept}
+
+-- what holds of every refusal and of the outcome holds of the revolution
+revolution-by : (P : Result → Type 0) (s : State) (g : Given) (room : ℕ) → ((n : ℕ) → P (refused s n)) → P (done (revolved s g)) → P (revolution s g room)
+unfolding revolution
+revolution-by P s g room h k = go (eqb (revolutionRefusal s g) 0)
+  where
+    go : (b : Bool) → P (if b then delivered s (revolved s g) room else refused s (revolutionRefusal s g))
+    go true = delivered-by P s (revolved s g) room (h 6) k
+    go false = h (revolutionRefusal s g)
+
+pub refusals-change-nothing : RefusalsChangeNothing
+refusals-change-nothing s g d =
+    revolution-by (λ x. (x .reply .refusal ≡ 0 → ⊥) → Unchanged s d x) s g (length d) (λ n _. refused-unchanged s n d) (λ n. absurd (n refl))
+
+in-order : (a b c f : Bool)
+    → _≡_ {A = ℕ}
+    (if eqb (if a then 1 else if b then 7 else if c then 8 else 0) 0 then (if f then 6 else 0) else (if a then 1 else if b then 7 else if c then 8 else 0))
+    (if a then 1 else if b then 7 else if c then 8 else if f then 6 else 0)
+in-order true b c f = refl
+in-order false true c f = refl
+in-order false false true f = refl
+in-order false false false f = refl
+
+pub refusals-exactly : RefusalsExactly
+unfolding revolution revolutionRefusal
+refusals-exactly s g room =
+    go (eqb (revolutionRefusal s g) 0)
+    ∙ in-order (not (inRange s)) (not (isMeasure (s .mode))) (not (listsFit s g)) (ltb room (length (revolved s g .words)))
+  where
+    go : (b : Bool)
+        → (if b then delivered s (revolved s g) room else refused s (revolutionRefusal s g)) .reply .refusal
+        ≡ (if b then (if ltb room (length (revolved s g .words)) then 6 else 0) else revolutionRefusal s g)
+    go true = delivered-number s (revolved s g) room
+    go false = refl
+
+-- a job in its ranges goes on in its ranges, or ends
+job-kept : (m : Mode) (j : Job) → T (jobOk m j) → T (jobOk m (jobAfter j))
+job-kept m Absent h = tt
+job-kept m (Endless mask sent) h = h
+job-kept m (Counted left mask sent) h = go (eqb left 1) refl
+  where
+    a : T (isMeasure m)
+    a = search (and-l, and-r)
+
+    b : T (maskOk mask)
+    b = search (and-l, and-r)
+
+    c : 1 ≤ left
+    c = leb→le 1 left (search (and-l, and-r))
+
+    d : left + sent ≤ 65535
+    d = leb→le (left + sent) 65535 (search (and-l, and-r))
+
+    go : (x : Bool) → eqb left 1 ≡ x → T (jobOk m (if x then Absent else Counted (left - 1) mask (sent + 1)))
+    go true e = tt
+    go false e =
+        let n = eqb-false left 1 e in
+        let i = c in
+        let k = d in
+        search (and-both, a, b, le→leb 1 (left - 1) (omega arith), le→leb (left - 1 + (sent + 1)) 65535 (omega arith))
+
+pub ranges-kept : RangesKept
+unfolding revolved
+ranges-kept s g room h =
+    revolution-by (λ x. T (inRange (x .reply .state))) s g room (λ _. h)
+    (let p = parts s h in
+    whole _ (record { config = p .config; working = p .working; stored = p .stored; running = p .running; checks = p .checks; job = job-kept (s .mode) (s .job) (p .job) }))

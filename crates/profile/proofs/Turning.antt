@@ -1,0 +1,67 @@
+-- The ways out of `job_after`, `turn` and `revolution_refusal`, over what the callees ensure.
+use mathlib.Core.Path.{_≡_, _∙_}
+use mathlib.Core.Bool.{Bool, true, false, not}
+use Prim.Native.Nat.{ℕ, _+_, _-_, _≤_, _<_}
+use native.Mathlib.Omega.{arith}
+use lib.ListN.{length}
+use borrow.Author.Tests.{eq-eqb, ne-eqb}
+use Rattle.words.proofs.Tests.{said-no, said-yes}
+use Rattle.units.specs.Directions.{revolutionShots}
+use Rattle.state.specs.declared.State.{State}
+use Rattle.state.specs.declared.Job.{Job}
+use Rattle.state.specs.declared.Job.the-variants.{Absent, Counted, Endless}
+use Rattle.state.specs.Fields.{withDrive, withPort}
+use Rattle.state.specs.Ranges.{isMeasure, inRange}
+use Rattle.profile.specs.Profiles.{Given}
+use Rattle.profile.specs.Asked.{JobAsked}
+use Rattle.profile.specs.Revolutions.{risen, jobAfter, turned, revolutionRefusal}
+
+-- `job_after`
+module _ (job : Job) where
+  pub no-job : job ≡ Absent → Absent ≡ jobAfter job
+  no-job j = rw j
+
+  pub endless-goes : (mask sent n : ℕ) → job ≡ Endless mask sent → n ≡ risen sent → Endless mask n ≡ jobAfter job
+  endless-goes mask sent n j e = rw (j, e)
+
+  module _ (left mask sent : ℕ) (j : job ≡ Counted left mask sent) where
+    pub job-ends : left ≡ 1 → Absent ≡ jobAfter job
+    job-ends h = rw (j, eq-eqb _ _ h)
+
+    pub job-goes : (left ≡ 1 → ⊥) → Counted (left - 1) mask (sent + 1) ≡ jobAfter job
+    job-goes h = rw (j, ne-eqb _ _ h)
+
+    pub some-left : JobAsked job → 1 ≤ left
+    some-left a = (rw j at a) .0
+
+    pub can-rise : JobAsked job → sent + 1 < 65536
+    can-rise a = omega (arith, (rw j at a) .1)
+
+-- `turn`
+pub turned-so : (s d r : State) (j : Job) (n : ℕ) → j ≡ jobAfter (s .job) → d ≡ withDrive s (s .mode) (s .running) j → n ≡ risen (s .counter)
+    → r ≡ withPort d (s .port) n → r ≡ turned s
+turned-so s d r j n ej ed en er = er ∙ rw (ed, ej, en)
+
+-- `revolution_refusal`
+module _ (s : State) (g : Given) (a : Bool) (ea : a ≡ inRange s) where
+  pub no-range : not a ≡ true → 1 ≡ revolutionRefusal s g
+  unfolding revolutionRefusal
+  no-range q = rw (said-no ea q)
+
+  module _ (qa : not a ≡ false) (b : Bool) (eb : b ≡ isMeasure (s .mode)) where
+    pub no-measure : not b ≡ true → 7 ≡ revolutionRefusal s g
+    unfolding revolutionRefusal
+    no-measure q = rw (said-yes ea qa, said-no eb q)
+
+    module _ (qb : not b ≡ false) (n : ℕ) (en : n ≡ revolutionShots (s .step .0)) where
+      pub no-distances : (length (g .distances) ≡ n → ⊥) → 8 ≡ revolutionRefusal s g
+      unfolding revolutionRefusal
+      no-distances h = rw (said-yes ea qa, said-yes eb qb, ← en, ne-eqb _ _ h)
+
+      pub no-echoes : length (g .distances) ≡ n → (length (g .echoes) ≡ n → ⊥) → 8 ≡ revolutionRefusal s g
+      unfolding revolutionRefusal
+      no-echoes d h = rw (said-yes ea qa, said-yes eb qb, ← en, eq-eqb _ _ d, ne-eqb _ _ h)
+
+      pub none-refuses : length (g .distances) ≡ n → length (g .echoes) ≡ n → 0 ≡ revolutionRefusal s g
+      unfolding revolutionRefusal
+      none-refuses d h = rw (said-yes ea qa, said-yes eb qb, ← en, eq-eqb _ _ d, eq-eqb _ _ h)

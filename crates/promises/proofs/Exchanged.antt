@@ -1,0 +1,46 @@
+-- What is sent is read.
+use mathlib.Core.Path.{_≡_, refl, ap}
+use mathlib.Core.Bool.{not, _&&_}
+use mathlib.Core.List.{List, [], _∷_}
+use Prim.Native.Nat.{ℕ, _+_}
+use native.Mathlib.Omega.{arith}
+use lib.Dec.{T}
+use lib.ListN.{length, getD}
+use Rattle.words.proofs.Tests.{and-l, and-r}
+use Rattle.layout.specs.Masks.{maskOk, uncounted}
+use Rattle.layout.specs.Layout.{layout}
+use Rattle.state.specs.declared.State.{State}
+use Rattle.state.specs.declared.Mode.{Mode}
+use Rattle.state.specs.declared.Job.{Job}
+use Rattle.state.specs.declared.Job.the-variants.{Absent, Counted, Endless}
+use Rattle.state.specs.Ranges.{jobOk}
+use Rattle.state.proofs.Parts.{Parts, parts}
+use Rattle.profile.specs.Profiles.{Given, fieldsOf}
+use Rattle.profile.specs.Revolutions.{risen, profileOf, revolved}
+use Rattle.profile.specs.Demands.{Turning}
+use Rattle.profile.proofs.Carried.{sent-acceptable}
+use Rattle.reader.proofs.RoundTrip.{reads-back}
+use Rattle.promises.specs.Exchange.{sending, Reads, SentIsRead}
+
+-- the mask of a job in its ranges, and its profile
+mask-of : (m : Mode) (j : Job) (mask sent : ℕ) → T (jobOk m j) → sending j ≡ mask ∷ sent ∷ [] → T (maskOk mask)
+mask-of m Absent mask sent h e = absurd (let z : _≡_ {A = ℕ} 0 2 = ap length e in omega arith)
+mask-of m (Counted left mask′ sent′) mask sent h e =
+    let k : T (maskOk mask′) = search (and-l, and-r) in
+    rw (ap (λ (l : List ℕ). getD l 0 0) e) at k
+mask-of m (Endless mask′ sent′) mask sent h e =
+    let k : T (maskOk mask′) = search (and-l, and-r) in
+    rw (ap (λ (l : List ℕ). getD l 0 0) e) at k
+
+profile-of : (s : State) (g : Given) (j : Job) (mask sent : ℕ) → sending j ≡ mask ∷ sent ∷ [] → profileOf s g j ≡ layout (fieldsOf s g mask sent (risen (s .counter)))
+profile-of s g Absent mask sent e = absurd (let z : _≡_ {A = ℕ} 0 2 = ap length e in omega arith)
+profile-of s g (Counted left mask′ sent′) mask sent e = ap (λ (l : List ℕ). layout (fieldsOf s g (getD l 0 0) (getD l 1 0) (risen (s .counter)))) e
+profile-of s g (Endless mask′ sent′) mask sent e = ap (λ (l : List ℕ). layout (fieldsOf s g (getD l 0 0) (getD l 1 0) (risen (s .counter)))) e
+
+pub sent-is-read : SentIsRead
+unfolding revolved
+sent-is-read s g t mask sent e c =
+    let p = profile-of s g (s .job) mask sent e in
+    let k = mask-of (s .mode) (s .job) mask sent (parts s (t .range) .job) e in
+    let r = reads-back (fieldsOf s g mask sent (risen (s .counter))) (sent-acceptable s g t mask sent (risen (s .counter)) k c) in
+    record { accepted = rw p (r .0); fields = rw p (r .1) }
