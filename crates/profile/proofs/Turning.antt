@@ -34,8 +34,15 @@ module _ (job : Job) where
     pub some-left : JobAsked job → 1 ≤ left
     some-left a = (rw j at a) .0
 
-    pub can-rise : JobAsked job → sent + 1 < 65536
-    can-rise a = omega (arith, (rw j at a) .1)
+    pub can-rise : (n : ℕ) → n ≤ 1 → JobAsked job → sent + n < 65536
+    can-rise n h a = omega (arith, (rw j at a) .1)
+
+-- whether a number rises or not, it has room: that it does rise is for the result to say
+pub rises : 1 ≤ 1
+rises = omega arith
+
+pub stays : 0 ≤ 1
+stays = omega arith
 
 -- `turn`
 pub turned-so : (s d r : State) (j : Job) (n : ℕ) → j ≡ jobAfter (s .job) → d ≡ withDrive s (s .mode) (s .running) j → n ≡ risen (s .counter)

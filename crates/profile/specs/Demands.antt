@@ -4,7 +4,7 @@ use mathlib.Core.Bool.{Bool, not, _&&_}
 use mathlib.Core.List.{List, [], _∷_, _++_}
 use Prim.Native.Nat.{ℕ, _+_, _*_, _≤_, _<_}
 use lib.Dec.{T, ltb, eqb}
-use lib.ListN.{length, getD}
+use lib.ListN.{length, getD, drop}
 use Rattle.words.specs.Choice.{if_then_else_}
 use Rattle.words.specs.Bits.{bit}
 use Rattle.words.specs.Words.{givenIf}
@@ -97,9 +97,20 @@ twoPoints = record { function = 3; first = record { 0 = 16 }; last = record { 0 
 abbrev pub twoShots : Given
 twoShots = record { start = 0; distances = 1 ∷ 2 ∷ []; echoes = 3 ∷ 4 ∷ [] }
 
+-- the same shots, each with the echo of the one behind it
+abbrev pub laterEchoes : Given → Given
+laterEchoes g = record { start = g .start; distances = g .distances; echoes = drop 1 (g .echoes) }
+
 -- no writer of blocks meets the contract of the writer of points
 abbrev pub NotAsBlocks : Type 0
 NotAsBlocks =
     (before after : List ℕ) (count : ℕ) → Wrote (asBlocks 0x0700 8 twoShots twoPoints) before after count
+    → Wrote (pointsOf 0x0700 8 twoShots twoPoints) before after count
+    → ⊥
+
+-- nor does one that takes the echo of the next shot
+abbrev pub NotLaterEchoes : Type 0
+NotLaterEchoes =
+    (before after : List ℕ) (count : ℕ) → Wrote (pointsOf 0x0700 8 (laterEchoes twoShots) twoPoints) before after count
     → Wrote (pointsOf 0x0700 8 twoShots twoPoints) before after count
     → ⊥

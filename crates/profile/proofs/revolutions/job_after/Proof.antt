@@ -1,5 +1,5 @@
 use borrow.Author.Needs.{needs}
-use Rattle.profile.proofs.Turning.{no-job, endless-goes, job-ends, job-goes, some-left, can-rise}
+use Rattle.profile.proofs.Turning.{no-job, endless-goes, job-ends, job-goes, some-left, can-rise, rises}
 use Rattle.profile.proofs.revolutions.job_after.Statement.{statement}
 use Rattle.profile.proofs.revolutions.job_after.Tie as tie
 
@@ -11,7 +11,7 @@ job-after-spec =
     (λ c. search needs)
     (λ c. search job-ends)
     (λ c. search some-left)
-    (λ c. record { fits = search can-rise })
+    (λ c. record { fits = search (can-rise, rises) })
     (λ c. search needs)
     (λ c κs. search needs)
     (λ c. search no-job)
