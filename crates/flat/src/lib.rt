@@ -1,0 +1,86 @@
+// The writer by plain numbers, for programs in C or Rust.
+ghost use mathlib.Core.Path.{_≡_};
+ghost use lib.ListN.{length};
+ghost use Rattle.profile.specs.Asked.{given};
+ghost use Rattle.profile.specs.Revolutions.{revolution};
+ghost use Rattle.flat.specs.Sending.{entryOf, planOf, sending};
+ghost use Rattle.flat.specs.Sent.{Sent};
+use plan::Plan;
+use plan::Sector;
+use state::Job;
+use state::Mode;
+use state::State;
+use units::Angle;
+use units::Time;
+
+// Entry k of a plan: its function and its stop are words 2k and 2k + 1, 0 where there are none.
+fn entry_of(plan: &[u16], k: u8) -> Sector
+    ensures { λ r. ⌜ r ≡ entryOf (now (plan .entry)) k ⌝ }
+{
+    let at = 2 * k as usize;
+    let function = words::word_at(plan, at);
+    let stop = words::word_at(plan, at + 1);
+    Sector {
+        function,
+        stop: Angle(stop),
+    }
+}
+
+// The plan of eight entries.
+fn plan_of(plan: &[u16]) -> Plan
+    ensures { λ r. ⌜ r ≡ planOf (now (plan .entry)) ⌝ }
+{
+    let a = entry_of(plan, 0);
+    let b = entry_of(plan, 1);
+    let c = entry_of(plan, 2);
+    let d = entry_of(plan, 3);
+    let e = entry_of(plan, 4);
+    let f = entry_of(plan, 5);
+    let g = entry_of(plan, 6);
+    let h = entry_of(plan, 7);
+    Plan {
+        sectors: [a, b, c, d, e, f, g, h],
+    }
+}
+
+// A sensor that measures with that plan, with a job of one profile.
+fn sending(plan: &[u16], step: u16, running: u16, mask: u16) -> State
+    ensures { λ r. ⌜ r ≡ sending (now (plan .entry)) step running mask ⌝ }
+{
+    let both = plan_of(plan);
+    let switched_on = state::fresh();
+    let configured = state::with_config(
+        switched_on,
+        switched_on.id,
+        switched_on.speed,
+        Angle(step),
+    );
+    let planned = state::with_plans(configured, both, both);
+    let job = Job::Counted {
+        left: 1,
+        mask,
+        sent: 0,
+    };
+    state::with_drive(planned, Mode::Measure, running, job)
+}
+
+// The profile of one revolution into the buffer that is lent; how many words it has, 0 where the call is refused.
+#[no_mangle]
+pub extern "C" fn slackjib_profile(
+    plan: &[u16],
+    step: u16,
+    running: u16,
+    mask: u16,
+    start: u16,
+    distances: &[u16],
+    echoes: &[u16],
+    out: &mut [u16],
+) -> usize
+    ensures { λ r. ⌜ Sent r (now (out .entry)) (now (out .exit))
+        (revolution (sending (now (plan .entry)) step running mask) (given start (now (distances .entry)) (now (echoes .entry)))
+        (length (now (out .entry)))) ⌝ }
+{
+    let state = sending(plan, step, running, mask);
+    let reply = profile::revolution(state, Time(start), distances, echoes, out);
+    reply.count
+}

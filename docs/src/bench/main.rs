@@ -1,0 +1,242 @@
+//! Compares the proved writer with the one in `writer.rs`, word by word, and then times both.
+mod writer;
+
+use std::hint::black_box;
+use std::time::Instant;
+
+type Writer = fn(&[u16], u16, u16, u16, u16, &[u16], &[u16], &mut [u16]) -> usize;
+
+// Nothing checks this declaration against the Rattle source: a slice passes as a pointer and then a length.
+extern "C" {
+    fn slackjib_profile(
+        plan: *const u16,
+        plan_length: usize,
+        step: u16,
+        running: u16,
+        mask: u16,
+        start: u16,
+        distances: *const u16,
+        distances_length: usize,
+        echoes: *const u16,
+        echoes_length: usize,
+        out: *mut u16,
+        out_length: usize,
+    ) -> usize;
+}
+
+// The proved function asks nothing of its caller but that the slices are slices.
+#[inline(never)]
+fn proved(plan: &[u16], step: u16, running: u16, mask: u16, start: u16, distances: &[u16], echoes: &[u16], out: &mut [u16]) -> usize {
+    unsafe {
+        slackjib_profile(
+            plan.as_ptr(),
+            plan.len(),
+            step,
+            running,
+            mask,
+            start,
+            distances.as_ptr(),
+            distances.len(),
+            echoes.as_ptr(),
+            echoes.len(),
+            out.as_mut_ptr(),
+            out.len(),
+        )
+    }
+}
+
+// Numbers that look random and are the same in every run.
+struct Numbers {
+    state: u64,
+}
+
+impl Numbers {
+    fn next(&mut self) -> u64 {
+        self.state = self.state.wrapping_mul(6364136223846793005).wrapping_add(1442695040888963407);
+        self.state >> 33
+    }
+
+    fn below(&mut self, n: u64) -> u64 {
+        self.next() % n
+    }
+
+    fn words(&mut self, count: usize) -> Vec<u16> {
+        let mut list = Vec::new();
+        for _ in 0..count {
+            list.push(self.next() as u16);
+        }
+        list
+    }
+}
+
+const STEPS: [u16; 23] = [1, 2, 3, 4, 5, 6, 8, 9, 10, 12, 15, 16, 18, 20, 24, 30, 32, 36, 40, 45, 48, 60, 64];
+
+// More than the longest profile has.
+const ROOM: usize = 6600;
+
+// What both writers are given.
+struct Input {
+    plan: Vec<u16>,
+    step: u16,
+    running: u16,
+    mask: u16,
+    start: u16,
+    distances: Vec<u16>,
+    echoes: Vec<u16>,
+}
+
+fn write(writer: Writer, input: &Input, out: &mut [u16]) -> usize {
+    writer(&input.plan, input.step, input.running, input.mask, input.start, &input.distances, &input.echoes, out)
+}
+
+// Up to eight sectors with stops that increase by whole steps.
+fn some_plan(numbers: &mut Numbers, step: u16) -> Vec<u16> {
+    let count = 1 + numbers.below(8);
+    let shots = 5760 / step as u64;
+    let mut plan = Vec::new();
+    let mut stop = numbers.below(shots / 8);
+    for _ in 0..count {
+        plan.push([1, 3, 3, 3, 4][numbers.below(5) as usize]);
+        plan.push(stop as u16 * step);
+        stop += 1 + numbers.below(shots / 8);
+    }
+    plan
+}
+
+fn some_input(numbers: &mut Numbers) -> Input {
+    let step = STEPS[numbers.below(23) as usize];
+    let shots = 5760 / step as usize;
+    Input {
+        plan: some_plan(numbers, step),
+        step,
+        running: 5 + numbers.below(4) as u16,
+        mask: 1 + numbers.below(0x3FFF) as u16,
+        start: numbers.next() as u16,
+        distances: numbers.words(shots),
+        echoes: numbers.words(shots),
+    }
+}
+
+// One damage in half of the inputs, in the others none.
+fn damage(numbers: &mut Numbers, input: &mut Input) {
+    let length = input.plan.len() as u64;
+    let shots = input.distances.len() as u64;
+    match numbers.below(16) {
+        0 => input.step = numbers.below(70) as u16,
+        1 => input.running = numbers.below(30) as u16,
+        2 => input.mask = numbers.next() as u16,
+        3 => input.distances.truncate(numbers.below(shots) as usize),
+        4 => input.echoes.push(0),
+        5 => input.plan[numbers.below(length) as usize] = [0, 2, 5, 5759, 5760, 65535][numbers.below(6) as usize],
+        6 => input.plan.truncate(numbers.below(length) as usize),
+        7 => input.plan.extend([numbers.below(5) as u16, numbers.below(5760) as u16, 3]),
+        _ => {}
+    }
+}
+
+// Both writers give the same count and leave the same words in a buffer of so many; the count.
+fn agree(input: &Input, before: &[u16], room: usize) -> usize {
+    let mut out = before.to_vec();
+    let mut other = before.to_vec();
+    let count = write(writer::profile, input, &mut out[..room]);
+    assert_eq!(count, write(proved, input, &mut other[..room]), "the counts differ");
+    assert!(out == other, "the words differ");
+    count
+}
+
+// Compares both writers on many inputs, each with room to spare, with just the room and with one word less.
+fn compare(inputs: usize) {
+    let mut numbers = Numbers { state: 1 };
+    let mut accepted = 0;
+    for _ in 0..inputs {
+        let mut input = some_input(&mut numbers);
+        damage(&mut numbers, &mut input);
+        let before = numbers.words(ROOM);
+        let count = agree(&input, &before, ROOM);
+        if count > 0 {
+            accepted += 1;
+            assert_eq!(agree(&input, &before, count), count);
+            assert_eq!(agree(&input, &before, count - 1), 0);
+        }
+    }
+    println!("{inputs} inputs, {accepted} of them accepted: the same counts and the same words");
+}
+
+struct Case {
+    name: &'static str,
+    input: Input,
+}
+
+// A case of so many equal sectors of function 3, all fields of the profile selected.
+fn case(name: &'static str, sectors: u16, step: u16, running: u16) -> Case {
+    let mut numbers = Numbers { state: 2 };
+    let mut plan = Vec::new();
+    for k in 1..sectors + 1 {
+        plan.push(3);
+        plan.push(5760 / sectors * k - step);
+    }
+    let shots = 5760 / step as usize;
+    let input = Input {
+        plan,
+        step,
+        running,
+        mask: 0x3FFF,
+        start: 0,
+        distances: numbers.words(shots),
+        echoes: numbers.words(shots),
+    };
+    Case { name, input }
+}
+
+// Nanoseconds a call. The buffer is not cleared between the calls.
+fn time(writer: Writer, input: &Input, out: &mut [u16], calls: u32) -> f64 {
+    let begin = Instant::now();
+    for _ in 0..calls {
+        black_box(write(writer, black_box(input), black_box(&mut *out)));
+    }
+    begin.elapsed().as_nanos() as f64 / calls as f64
+}
+
+fn median(times: &mut Vec<f64>) -> f64 {
+    times.sort_by(|a, b| a.total_cmp(b));
+    times[times.len() / 2]
+}
+
+fn measure(case: &Case, rounds: usize, calls: u32) {
+    let mut out = vec![0; ROOM];
+    let count = agree(&case.input, &out, ROOM);
+    assert!(count > 0, "{} is refused", case.name);
+    let mut rust = Vec::new();
+    let mut rattle = Vec::new();
+    // one round that does not count, and then the two in turn, each first in every other round
+    time(writer::profile, &case.input, &mut out, calls);
+    time(proved, &case.input, &mut out, calls);
+    for round in 0..rounds {
+        if round % 2 == 0 {
+            rust.push(time(writer::profile, &case.input, &mut out, calls));
+            rattle.push(time(proved, &case.input, &mut out, calls));
+        } else {
+            rattle.push(time(proved, &case.input, &mut out, calls));
+            rust.push(time(writer::profile, &case.input, &mut out, calls));
+        }
+    }
+    let (a, b) = (median(&mut rust), median(&mut rattle));
+    println!("| {} | {count} | {a:.0} | {:.0} | {b:.0} | {:.0} | {:.2} |", case.name, rust[0], rattle[0], b / a);
+}
+
+fn main() {
+    compare(6000);
+    let (rounds, calls) = (31, 2000);
+    println!("{rounds} rounds of {calls} calls of each writer, mask 3FFFh, ns a profile:");
+    println!("| Plan | Words | Rust, median | Rust, least | Rattle, median | Rattle, least | Ratio of medians |");
+    println!("|---|---|---|---|---|---|---|");
+    let cases = [
+        case("one sector, step 8, 10 Hz", 1, 8, 10),
+        case("eight sectors, step 8, 10 Hz", 8, 8, 10),
+        case("one sector, step 4, 5 Hz", 1, 4, 5),
+        case("eight sectors, step 4, 5 Hz", 8, 4, 5),
+    ];
+    for case in &cases {
+        measure(case, rounds, calls);
+    }
+}
