@@ -7,3 +7,4 @@ pub mod Accepted
 pub mod PointPlaces
 pub mod RoundTrip
 pub mod PointNumbers
+pub mod ByPlace
