@@ -16,7 +16,7 @@ pub record SectorFields : Type 0 where
   pub tend : Word
   pub enddir : Word
 
--- "0 sent, 1 counter, [..] 2 layer", the sectors, "Once at the end: 13 SENSTAT", high word and low word
+-- "0 sent [..], 1 counter, [..] 2 layer", the sectors, "Once at the end: 13 SENSTAT", high word and low word
 pub record Fields : Type 0 where
   pub mask : ℕ
   pub sent : Word

@@ -58,7 +58,7 @@ pub record Fits (f : Fields) : Type 0 where
   pub high : Shaped (bit (f .mask) 13) (f .high)
   pub low : Shaped (bit (f .mask) 13) (f .low)
 
--- fields "whose mask is acceptable, with 1 to 8 sectors and bit 5 where a bit of 8 to 10 is set"
+-- fields whose mask is acceptable, with 1 to 8 sectors and bit 5 where a bit of 8 to 10 is set: what refusals 13 and 14 ask
 pub record Acceptable (f : Fields) : Type 0 where
   pub mask : T (maskOk (f .mask))
   pub some-sector : 1 ≤ length (f .sectors)

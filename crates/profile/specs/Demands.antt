@@ -76,7 +76,7 @@ pub record CarriesShots (s : State) (g : Given) (mask number : ℕ) (a : Arc) (f
   pub body : f .body ≡ inTurn (λ i. shotWords mask s g (a .shot + i)) (a .points)
   pub measured : (i : ℕ) → i < a .points → getD (runOf (s .step .0) (s .working)) (a .shot + i) noShot .function ≡ 3
 
--- "Point i of a sector [..] is the sector's first shot + i": for every state, every mask and every active sector
+-- the points of a profile are the run's shots of function 3: for every state, every mask and every active sector
 abbrev pub PointsAreShots : Type 0
 PointsAreShots =
     (s : State) (g : Given) (mask sent counter place : ℕ) → place < length (activeOf (s .working))
