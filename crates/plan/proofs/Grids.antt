@@ -1,9 +1,8 @@
 -- Directions on the grid of a step that divides the circle: the steps from one to another, and the shots of a sector between them.
 -- Each fact is shown once, over the step.
-use mathlib.Core.Path.{_≡_, refl, _∙_}
-use mathlib.Core.Logic.{_⊎_, inl, inr}
+use mathlib.Core.Path.{_≡_, _∙_}
 use Prim.Native.Nat.{ℕ, zero, suc, _+_, _-_, _*_, _/_, _%_, _≤_, _<_, _∣_}
-use native.Mathlib.Nat.{dvd-add, dvd-sub, dvd-refl, dvd-zero, le-of-dvd, dvd-mod-iff, dvd-of-mod-eq-zero, div-mul-cancel, eq-of-mul-eq-mul-right}
+use native.Mathlib.Nat.{dvd-add, dvd-sub, dvd-refl, dvd-zero, le-of-dvd, dvd-mod-iff, dvd-of-mod-eq-zero, div-mul-cancel}
 use native.Mathlib.Omega.{arith}
 use lib.Dec.{T, leb→le, eqb→eq}
 use Rattle.units.specs.Directions.{stepAfter, shotsTo}
@@ -67,11 +66,3 @@ module _ (step : ℕ) (v : Divides step) where
 
   pub span-around : (b e : ℕ) → Grid step b → Grid step e → e ≤ b → shotsTo step (stepAfter step b) e * step + b ≡ e + 5760
   span-around b e g h l = omega (arith, width (after-grid g) h, apart b 5760 (g .whole) (v .circle) (g .below))
-
-  -- the shots of two sectors are those of the one that joins them, where e lies between b and t around the circle
-  pub counts : (b e t : ℕ) → Grid step b → Grid step e → Grid step t → e < t → (b < e) ⊎ (t ≤ b)
-      → shotsTo step (stepAfter step b) e + shotsTo step (stepAfter step e) t ≡ shotsTo step (stepAfter step b) t
-  counts b e t gb ge gt l (inl k) =
-      eq-of-mul-eq-mul-right step (v .positive) _ _ (omega (arith, span b e gb ge k, span e t ge gt l, span b t gb gt (omega arith)))
-  counts b e t gb ge gt l (inr k) =
-      eq-of-mul-eq-mul-right step (v .positive) _ _ (omega (arith, span-around b e gb ge (omega arith), span e t ge gt l, span-around b t gb gt k))

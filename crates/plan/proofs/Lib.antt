@@ -1,9 +1,7 @@
 -- The theorems
-pub mod Joins
 pub mod Grids
-pub mod NormalSectors
+pub mod FineSectors
 pub mod Runs
-pub mod Demand3
 pub mod Tiling
 pub mod Rounds
 pub mod PlanRows
@@ -12,5 +10,4 @@ pub mod RangeValid
 -- The functions
 pub mod Walk
 pub mod ArcSums
-pub mod Joining
 pub mod Answers

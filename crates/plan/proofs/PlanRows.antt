@@ -1,5 +1,5 @@
 -- The P rows of plans: computed, but for the one that holds for every valid plan and every speed.
-use mathlib.Core.Path.{_≡_, refl}
+use mathlib.Core.Path.{_≡_}
 use mathlib.Core.Bool.{true}
 use Prim.Native.Nat.{ℕ, _*_, _≤_}
 use native.Mathlib.Omega.{arith}
@@ -11,7 +11,6 @@ use Rattle.plan.specs.Sectors.{isStep, activeOf}
 use Rattle.plan.specs.Validity.{increases, multiples, ValidPlan}
 use Rattle.plan.specs.Shots.{arcAt}
 use Rattle.plan.specs.Checks.{litShots, measureError}
-use Rattle.plan.specs.NormalForm.{planRefusal}
 use Rattle.plan.specs.Figures.{PlanFigures}
 
 -- at step 1 a revolution has 5760 shots, too many at every speed
@@ -24,5 +23,5 @@ step-one p speed v l =
     rw (a, b, c, lt-ltb 14400 (speed * 5760) (omega arith))
 
 pub plan-figures : PlanFigures
-unfolding isStep arcAt litShots planRefusal measureError
+unfolding isStep arcAt litShots measureError
 plan-figures p speed v l m = rw (step-one p speed v l)

@@ -20,7 +20,7 @@ use Rattle.plan.specs.Validity.{Valid, ValidPlan}
 use Rattle.plan.specs.Shots.{Shot, lastStop, shotsOf, arcsFrom, arcs, noArc, shots, run, runOf}
 use Rattle.plan.specs.Demands.{noShot, towards, functionOf, directionOf, endOf, RunsRound, Revolution}
 use Rattle.plan.proofs.Grids.{Divides, divides, Grid, on, on-is, on-suc, zero-grid, ends, span, span-around}
-use Rattle.plan.proofs.NormalSectors.{Fine, done, more, fine-of, last-above, last-grid}
+use Rattle.plan.proofs.FineSectors.{Fine, done, more, fine-of, last-above, last-grid}
 use Rattle.plan.proofs.Runs.{swept, runFrom, run-is, shots-append, shots-length, run-more, run-length}
 use Rattle.plan.proofs.Tiling.{shot-at, total-shots}
 

@@ -1,9 +1,7 @@
--- What is promised of plans, as statements over the definitions above. The proofs stand in proofs/Demand3.antt and proofs/Tiling.antt.
+-- What is promised of plans, as statements over the definitions above. The proofs stand in proofs/Rounds.antt and Tiling.antt.
 use mathlib.Core.Path.{_≡_}
-use mathlib.Core.Logic.{_↔_}
-use mathlib.Core.Bool.{Bool}
 use mathlib.Core.List.{List, [], _∷_}
-use Prim.Native.Nat.{ℕ, _+_, _-_, _*_, _%_, _≤_, _<_}
+use Prim.Native.Nat.{ℕ, _+_, _-_, _*_, _%_, _<_}
 use lib.Dec.{T, leb, eqb}
 use lib.ListN.{length, getD, take, drop}
 use Rattle.units.specs.Directions.{revolutionShots}
@@ -16,27 +14,10 @@ use Rattle.plan.specs.Sectors.{isStep, unused, stopOf, activeOf}
 use Rattle.plan.specs.Validity.{ValidPlan}
 use Rattle.plan.specs.Shots.{Shot, lastStop, arcs, noArc, sweep, runOf}
 use Rattle.plan.specs.Checks.{isLit, litShots}
-use Rattle.plan.specs.NormalForm.{normalPlan, planRefusal}
 
 -- how many active sectors a plan has
 abbrev pub actives : Plan → ℕ
 actives p = length (activeOf p)
-
--- Demand 3, of a step and a plan p that is valid for it: another valid plan has the same normal plan exactly when it runs alike;
--- the normal plan is valid and runs so; normalising again changes nothing; no valid plan with fewer active sectors runs so.
-pub record NormalStands (step : ℕ) (p : Plan) : Type 0 where
-  pub alike : (q : Plan) → ValidPlan step q → (normalPlan p ≡ normalPlan q) ↔ (runOf step p ≡ runOf step q)
-  pub valid : ValidPlan step (normalPlan p)
-  pub runs-so : runOf step (normalPlan p) ≡ runOf step p
-  pub again : normalPlan (normalPlan p) ≡ normalPlan p
-  pub fewest : (q : Plan) → ValidPlan step q → runOf step q ≡ runOf step p → actives (normalPlan p) ≤ actives q
-
-abbrev pub Demand3 : Type 0
-Demand3 = (step : ℕ) → T (isStep step) → (p : Plan) → ValidPlan step p → NormalStands step p
-
--- the call answers 0 exactly for a step of the 23 and a plan that is valid for it
-abbrev pub AnswersZero : Type 0
-AnswersZero = (step : ℕ) (p : Plan) → length (p .sectors) ≡ 8 → (planRefusal p step ≡ 0) ↔ (T (isStep step) × ValidPlan step p)
 
 -- what stands where a run has no shot
 abbrev pub noShot : Shot

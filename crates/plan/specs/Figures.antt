@@ -3,13 +3,11 @@ use mathlib.Core.List.{List, [], _∷_}
 use Prim.Native.Nat.{ℕ, _-_, _≤_}
 use lib.ListN.{length, getD}
 use Rattle.words.specs.Rows.{Row, Shown}
-use Rattle.plan.specs.declared.Sector.{Sector}
 use Rattle.plan.specs.declared.Plan.{Plan}
-use Rattle.plan.specs.Sectors.{sector, stopOf}
+use Rattle.plan.specs.Sectors.{sector, filled}
 use Rattle.plan.specs.Validity.{ValidPlan}
 use Rattle.plan.specs.Shots.{arcAt, runOf}
 use Rattle.plan.specs.Checks.{measureError}
-use Rattle.plan.specs.NormalForm.{filled, normalPlan, planRefusal}
 use Rattle.plan.specs.Demands.{noShot}
 
 -- "both plans sector 0 function 3 stop 5752 and the rest 0/0"
@@ -26,21 +24,11 @@ shotsFirstLast p step =
     let r = runOf step p in
     length r ∷ getD r 0 noShot .direction ∷ getD r (length r - 1) noShot .direction ∷ []
 
--- the entries of a plan, function and stop of each
-abbrev pub entries : List Sector → List ℕ
-entries [] = []
-entries (s ∷ ss) = s .function ∷ stopOf s ∷ entries ss
-
 -- the rows, for any plan p that is valid for step 1 and any speed
 abbrev pub planRows : Plan → ℕ → List Row
 planRows p speed =
-    -- "7 and 72 give [..] 9 for the normal plan; 64 and 1 are taken"
-    record {
-      given = planRefusal p 7 ∷ planRefusal p 72 ∷ planRefusal (filled (sector 3 5696 ∷ [])) 64 ∷ planRefusal (filled (sector 3 5696 ∷ [])) 1 ∷ [];
-      figure = 9 ∷ 9 ∷ 0 ∷ 0 ∷ [];
-    }
     -- "yet 1 with a valid plan gives error 1 at every speed"
-    ∷ record { given = measureError p 1 speed ∷ []; figure = 1 ∷ [] }
+    record { given = measureError p 1 speed ∷ []; figure = 1 ∷ [] }
     -- "fresh plan, speed 10: 720 shots, from 0 to 5752. With stop 0: from 8 to 0"
     ∷ record { given = shotsFirstLast freshPlan 8; figure = 720 ∷ 0 ∷ 5752 ∷ [] }
     ∷ record { given = shotsFirstLast (filled (sector 3 0 ∷ [])) 8; figure = 720 ∷ 8 ∷ 0 ∷ [] }
@@ -53,19 +41,6 @@ planRows p speed =
     ∷ record { given = measureError twoSectors 4 11 ∷ measureError (filled (sector 3 5758 ∷ [])) 2 5 ∷ []; figure = 1 ∷ 2 ∷ [] }
     -- "step 10 with stop 5752: error 4"
     ∷ record { given = measureError freshPlan 10 10 ∷ []; figure = 4 ∷ [] }
-    -- "step 8, (3,1000), (3,2000), (1,3000) becomes (3,2000), (1,3000); (1,1000), (3,2000), (1,3000) stays"
-    ∷ record {
-      given =
-          planRefusal (filled (sector 3 1000 ∷ sector 3 2000 ∷ sector 1 3000 ∷ [])) 8
-          ∷ entries (normalPlan (filled (sector 3 1000 ∷ sector 3 2000 ∷ sector 1 3000 ∷ [])) .sectors);
-      figure = 0 ∷ 3 ∷ 2000 ∷ 1 ∷ 3000 ∷ 0 ∷ 0 ∷ 0 ∷ 0 ∷ 0 ∷ 0 ∷ 0 ∷ 0 ∷ 0 ∷ 0 ∷ 0 ∷ 0 ∷ [];
-    }
-    ∷ record {
-      given =
-          planRefusal (filled (sector 1 1000 ∷ sector 3 2000 ∷ sector 1 3000 ∷ [])) 8
-          ∷ entries (normalPlan (filled (sector 1 1000 ∷ sector 3 2000 ∷ sector 1 3000 ∷ [])) .sectors);
-      figure = 0 ∷ 1 ∷ 1000 ∷ 3 ∷ 2000 ∷ 1 ∷ 3000 ∷ 0 ∷ 0 ∷ 0 ∷ 0 ∷ 0 ∷ 0 ∷ 0 ∷ 0 ∷ 0 ∷ 0 ∷ [];
-    }
     ∷ []
 
 abbrev pub PlanFigures : Type 0

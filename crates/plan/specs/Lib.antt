@@ -3,6 +3,5 @@ pub mod Sectors
 pub mod Validity
 pub mod Shots
 pub mod Checks
-pub mod NormalForm
 pub mod Demands
 pub mod Figures

@@ -1,9 +1,9 @@
 -- Document 01, 'State and ranges' and 'Plans and shots': angle steps, the entries of a plan and their ranges, the active sectors.
 use mathlib.Core.Bool.{Bool, _&&_, _||_}
-use mathlib.Core.List.{List, [], _∷_}
-use Prim.Native.Nat.{ℕ, _%_}
+use mathlib.Core.List.{List, [], _∷_, _++_}
+use Prim.Native.Nat.{ℕ, _-_, _%_}
 use lib.Dec.{leb, eqb}
-use lib.ListN.{getD, set}
+use lib.ListN.{length, getD, set, replicate}
 use Rattle.words.specs.Choice.{if_then_else_}
 use Rattle.words.specs.Lists.{every}
 use Rattle.plan.specs.declared.Sector.{Sector}
@@ -39,6 +39,10 @@ entryAt p place = getD (p .sectors) place unused
 -- the plan with the entry at a place set
 abbrev pub withEntry : Plan → ℕ → Sector → Plan
 withEntry p place entry = record { sectors = set (p .sectors) place entry }
+
+-- sectors as a plan of eight entries: "Unused entries become 0/0."
+abbrev pub filled : List Sector → Plan
+filled ss = record { sectors = ss ++ replicate (8 - length ss) unused }
 
 -- "Active sectors are those before the first function 0."
 abbrev pub active : List Sector → List Sector

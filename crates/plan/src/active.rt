@@ -47,7 +47,7 @@ pub(crate) fn last_stop(plan: Plan) -> Angle
 }
 
 // There is an active sector, and the stops of the active ones increase.
-pub(crate) fn rising(plan: Plan) -> bool
+pub fn rising(plan: Plan) -> bool
     ensures { λ r. ⌜ r ≡ (some (activeOf plan) && increases (activeOf plan)) ⌝ }
 {
     let sectors = plan.sectors;
@@ -92,7 +92,7 @@ pub(crate) fn sector_ok(sector: Sector) -> bool
 }
 
 // Every active sector has a function and a stop that it may have.
-pub(crate) fn sectors_ok(plan: Plan) -> bool
+pub fn sectors_ok(plan: Plan) -> bool
     ensures { λ r. ⌜ r ≡ every sectorOk (activeOf plan) ⌝ }
 {
     let sectors = plan.sectors;
@@ -112,7 +112,7 @@ pub(crate) fn sectors_ok(plan: Plan) -> bool
 }
 
 // Every active stop is a multiple of the step.
-pub(crate) fn whole_steps(plan: Plan, step: Angle) -> bool
+pub fn whole_steps(plan: Plan, step: Angle) -> bool
     ensures { λ r. ⌜ r ≡ multiples (step .0) (activeOf plan) ⌝ }
 {
     let sectors = plan.sectors;

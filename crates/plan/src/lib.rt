@@ -1,19 +1,20 @@
-// Sector plans: their ranges, their arcs in a revolution, the checks before measuring, and the normal plan.
+// Sector plans: their ranges, their active sectors, their arcs in a revolution, and the checks before measuring.
 use units::Angle;
 
 mod active;
 mod arcs;
 mod checks;
 mod entries;
-mod normal;
 mod ranges;
 
 pub use active::active_count;
+pub use active::rising;
+pub use active::sectors_ok;
+pub use active::whole_steps;
 pub use arcs::arc_at;
 pub use checks::measure_error;
 pub use entries::entry_at;
 pub use entries::with_entry;
-pub use normal::normal_plan;
 pub use ranges::entry_in_range;
 pub use ranges::is_step;
 pub use ranges::plan_in_range;
@@ -37,10 +38,4 @@ pub struct Arc {
     pub shot: u16,
     pub shots: u16,
     pub points: u16,
-}
-
-// The answer of the normal plan call: a number for no with a plan of zeros, or 0 with the normal plan.
-pub struct Normalised {
-    pub refusal: u16,
-    pub plan: Plan,
 }

@@ -10,17 +10,18 @@ use borrow.Author.Tests.{ne-eqb}
 use Rattle.words.specs.Choice.{if_then_else_}
 use Rattle.words.specs.Lists.{some, every}
 use Rattle.words.proofs.Tests.{and-l, and-r, is-true}
 use Rattle.plan.specs.declared.Sector.{Sector}
 use Rattle.plan.specs.declared.Plan.{Plan}
-use Rattle.plan.specs.Sectors.{isStep, unused, active, activeOf}
+use Rattle.plan.specs.Sectors.{isStep, unused, filled, active, activeOf}
 use Rattle.plan.specs.Validity.{isFunction, sectorOk, increases, multiples, Valid, ValidPlan}
 use Rattle.plan.specs.Shots.{runOf}
-use Rattle.plan.specs.NormalForm.{normal, filled, normalPlan, planRefusal}
-use Rattle.plan.specs.Demands.{NormalStands, Demand3, AnswersZero}
+use Rattle.normal.specs.NormalForm.{normal, normalPlan, planRefusal}
+use Rattle.normal.specs.Demands.{NormalStands, Demand3, AnswersZero}
 use Rattle.plan.proofs.ArcSums.{active-length}
 use Rattle.plan.proofs.Grids.{Divides, divides}
-use Rattle.plan.proofs.NormalSectors.{Fine, done, more, fine-of, normal-valid, normal-normal, normal-length}
-use Rattle.plan.proofs.Runs.{normal-runs, same-normal, same-run, fewest}
+use Rattle.plan.proofs.FineSectors.{Fine, done, more, fine-of}
+use Rattle.normal.proofs.NormalSectors.{normal-valid, normal-normal, normal-length}
+use Rattle.normal.proofs.NormalRuns.{normal-runs, same-normal, same-run, fewest}
 
 not-zero : (f : ℕ) → T (isFunction f) → eqb f 0 ≡ false
 not-zero zero h = absurd h

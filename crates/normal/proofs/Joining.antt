@@ -9,11 +9,11 @@ use lib.ListN.{length, getD, drop, set, replicate, length-append}
 use lib.Seq.{set-at, append-snoc}
 use borrow.Author.Tests.{ne-eqb, eqb-true}
 use Rattle.words.specs.Choice.{if_then_else_}
 use Rattle.plan.specs.declared.Sector.{Sector}
-use Rattle.plan.specs.Sectors.{unused, active}
-use Rattle.plan.specs.NormalForm.{joined, normal, filled}
-use Rattle.plan.proofs.Joins.{Join, before, onto, join-view, absorb}
+use Rattle.plan.specs.Sectors.{unused, filled, active}
+use Rattle.normal.specs.NormalForm.{joined, normal}
 use Rattle.plan.proofs.Walk.{at-more}
+use Rattle.normal.proofs.Joins.{Join, before, onto, join-view, absorb}
 
 -- the function of the first of a list, 0 where there is none
 abbrev leads : List Sector → ℕ

@@ -1,16 +1,15 @@
 -- Document 01, 'Plans and shots' and 'Numbers for no' 9 to 11: the normal plan, and what the call answers.
 use mathlib.Core.Bool.{not, _&&_}
-use mathlib.Core.List.{List, [], _∷_, _++_}
-use Prim.Native.Nat.{ℕ, _-_}
+use mathlib.Core.List.{List, [], _∷_}
+use Prim.Native.Nat.{ℕ}
 use lib.Dec.{eqb}
-use lib.ListN.{length, replicate}
 use Rattle.words.specs.Choice.{if_then_else_}
 use Rattle.words.specs.Lists.{some, every}
 use Rattle.plan.specs.declared.Sector.{Sector}
 use Rattle.plan.specs.declared.Plan.{Plan}
-use Rattle.plan.specs.declared.Normalised.{Normalised}
-use Rattle.plan.specs.Sectors.{isStep, unused, activeOf}
+use Rattle.plan.specs.Sectors.{isStep, filled, activeOf}
 use Rattle.plan.specs.Validity.{sectorOk, increases, multiples}
+use Rattle.normal.specs.declared.Normalised.{Normalised}
 
 -- a sector in front of others: joined to the first of them where the functions are equal, "keeping the later stop"
 abbrev pub joined : Sector → List Sector → List Sector
@@ -21,10 +20,6 @@ joined s (t ∷ ts) = if eqb (s .function) (t .function) then t ∷ ts else s �
 abbrev pub normal : List Sector → List Sector
 normal [] = []
 normal (s ∷ ss) = joined s (normal ss)
-
--- sectors as a plan of eight entries: "Unused entries become 0/0."
-abbrev pub filled : List Sector → Plan
-filled ss = record { sectors = ss ++ replicate (8 - length ss) unused }
 
 abbrev pub normalPlan : Plan → Plan
 normalPlan p = filled (normal (activeOf p))

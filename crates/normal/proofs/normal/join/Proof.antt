@@ -4,10 +4,10 @@ use Prim.Native.Nat.{_-_}
 use native.Mathlib.Omega.{arith}
 use borrow.Author.Needs.{needs}
 use Rattle.words.proofs.Arrays.{long}
 use Rattle.plan.proofs.Walk.{at-zero, at-end}
-use Rattle.plan.proofs.Joining.{Joining, at-last, skips, keeps}
-use Rattle.plan.proofs.normal.join.Statement.{statement}
-use Rattle.plan.proofs.normal.join.Tie as tie
+use Rattle.normal.proofs.Joining.{Joining, at-last, skips, keeps}
+use Rattle.normal.proofs.normal.join.Statement.{statement}
+use Rattle.normal.proofs.normal.join.Tie as tie
 
 abbrev Inv-loop : tie.InvT-loop
 Inv-loop plan sectors out₀ n₀ i₀ out n i = Joining sectors out n i

@@ -1,7 +1,7 @@
 use borrow.Author.Needs.{needs}
-use Rattle.plan.proofs.Answers.{no-step, no-sector, no-rise, no-multiple, no-refusal}
-use Rattle.plan.proofs.normal.plan_refusal.Statement.{statement}
-use Rattle.plan.proofs.normal.plan_refusal.Tie as tie
+use Rattle.normal.proofs.Answers.{no-step, no-sector, no-rise, no-multiple, no-refusal}
+use Rattle.normal.proofs.normal.plan_refusal.Statement.{statement}
+use Rattle.normal.proofs.normal.plan_refusal.Tie as tie
 
 pub plan-refusal-spec : {M : Type 1} → statement M
 plan-refusal-spec =

@@ -1,22 +1,20 @@
 -- The normal form of active sectors, by itself: normalising again changes nothing, and it is valid where they are.
 use mathlib.Core.Path.{_≡_, refl, sym, ap, _∙_}
-use mathlib.Core.Bool.{Bool, true, _&&_}
 use mathlib.Core.List.{List, [], _∷_}
-use Prim.Native.Nat.{ℕ, suc, _+_, _%_, _≤_, _<_}
-use native.Mathlib.Nat.{dvd-of-mod-eq-zero, mod-eq-zero-of-dvd}
+use Prim.Native.Nat.{ℕ, suc, _%_, _≤_}
+use native.Mathlib.Nat.{mod-eq-zero-of-dvd}
 use native.Mathlib.Omega.{arith}
-use lib.Dec.{T, leb, ltb, eqb, leb→le, le→leb, eqb→eq}
+use lib.Dec.{T, le→leb}
 use lib.ListN.{length}
 use Rattle.words.specs.Lists.{some, every}
-use Rattle.words.proofs.Tests.{and-l, and-r, and-both, eq-holds}
-use Rattle.units.specs.Directions.{isMultiple}
+use Rattle.words.proofs.Tests.{and-both, eq-holds}
 use Rattle.plan.specs.declared.Sector.{Sector}
 use Rattle.plan.specs.Sectors.{stopOf}
-use Rattle.plan.specs.Validity.{isFunction, onCircle, sectorOk, increasesFrom, increases, multiples, Valid}
+use Rattle.plan.specs.Validity.{sectorOk, increasesFrom, increases, multiples, Valid}
 use Rattle.plan.specs.Shots.{lastStop}
-use Rattle.plan.specs.NormalForm.{joined, normal}
-use Rattle.plan.proofs.Joins.{Join, before, onto, join-view, absorb}
-use Rattle.plan.proofs.Grids.{Grid}
+use Rattle.normal.specs.NormalForm.{joined, normal}
+use Rattle.plan.proofs.FineSectors.{Fine, done, more, fine-of}
+use Rattle.normal.proofs.Joins.{Join, before, onto, join-view, absorb}
 
 normal-joined : (s : Sector) {ss r : List Sector} → Join s ss r → normal r ≡ joined s (normal ss)
 normal-joined s before = refl
@@ -43,32 +41,7 @@ pub last-normal : (d : ℕ) (ss : List Sector) → lastStop d (normal ss) ≡ la
 last-normal d [] = refl
 last-normal d (s ∷ ss) = last-joined d (join-view s (normal ss)) ∙ last-normal (stopOf s) ss
 
--- sectors that are valid, but for that there may be none, with stops of at least low: the tests of `Valid` as a view to match on
-pub data Fine (step : ℕ) : ℕ → List Sector → Type 0 where
-  done : {low : ℕ} → Fine step low []
-  more : {low : ℕ} {s : Sector} {ss : List Sector} → T (isFunction (s .function)) → low ≤ stopOf s → Grid step (stopOf s) → Fine step (suc (stopOf s)) ss → Fine step low (s ∷ ss)
-
 module _ (step : ℕ) where
-  head-grid : (s : Sector) (ss : List Sector) → T (every sectorOk (s ∷ ss)) → T (multiples step (s ∷ ss)) → Grid step (stopOf s)
-  head-grid s ss k m =
-      let a : T (onCircle (stopOf s)) = search (and-l, and-r) in
-      let e : T (isMultiple step (stopOf s)) = search (and-l, and-r) in
-      record { whole = dvd-of-mod-eq-zero step (eqb→eq (stopOf s % step) 0 e); below = omega (arith, leb→le (stopOf s) 5759 a) }
-
-  fine-after : (b : ℕ) (ss : List Sector) → T (every sectorOk ss) → T (increasesFrom b ss) → T (multiples step ss) → Fine step (suc b) ss
-  fine-after b [] k h m = done
-  fine-after b (s ∷ ss) k h m =
-      more {s = s} (search (and-l, and-r)) (leb→le (suc b) (stopOf s) (search (and-l, and-r))) (head-grid s ss k m)
-      (fine-after (stopOf s) ss (search (and-l, and-r)) (search (and-l, and-r)) (search (and-l, and-r)))
-
-  fine : (ss : List Sector) → T (every sectorOk ss) → T (increases ss) → T (multiples step ss) → Fine step 0 ss
-  fine [] k h m = done
-  fine (s ∷ ss) k h m =
-      more {low = 0} {s = s} (search (and-l, and-r)) (omega arith) (head-grid s ss k m) (fine-after (stopOf s) ss (search (and-l, and-r)) h (search (and-l, and-r)))
-
-  pub fine-of : {ss : List Sector} → Valid step ss → Fine step 0 ss
-  fine-of {ss} v = fine ss (v .in-range) (v .increasing) (v .whole-steps)
-
   fine-increases : {b : ℕ} {ss : List Sector} → Fine step (suc b) ss → T (increasesFrom b ss)
   fine-increases done = tt
   fine-increases {b} (more {s = s} f a g r) = search (and-both, le→leb (suc b) (stopOf s) a, fine-increases r)
@@ -109,12 +82,4 @@ module _ (step : ℕ) where
   some-normal (s ∷ ss) h = some-joined (join-view s (normal ss))
 
   pub normal-valid : (ss : List Sector) → Valid step ss → Valid step (normal ss)
-  normal-valid ss v = fine-valid (normal-fine (fine-of v)) (some-normal ss (v .at-least-one))
-
-  pub last-above : {d : ℕ} {ss : List Sector} → Fine step (suc d) ss → d ≤ lastStop d ss
-  last-above done = omega arith
-  last-above (more f a g r) = omega (arith, last-above r)
-
-  pub last-grid : {d low : ℕ} {ss : List Sector} → Grid step d → Fine step low ss → Grid step (lastStop d ss)
-  last-grid h done = h
-  last-grid h (more f a g r) = last-grid g r
+  normal-valid ss v = fine-valid (normal-fine (fine-of step v)) (some-normal ss (v .at-least-one))

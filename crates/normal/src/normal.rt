@@ -1,15 +1,16 @@
 // The normal plan: neighbours of equal function joined.
 ghost use mathlib.Core.Path.{_≡_};
 ghost use mathlib.Core.List.{[]};
-ghost use Rattle.plan.specs.NormalForm.{filled, normalPlan, planRefusal, normalisedOf};
+ghost use Rattle.plan.specs.Sectors.{filled};
+ghost use Rattle.normal.specs.NormalForm.{normalPlan, planRefusal, normalisedOf};
 use crate::Normalised;
-use crate::Plan;
-use crate::Sector;
-use crate::active::rising;
-use crate::active::sectors_ok;
-use crate::active::whole_steps;
-use crate::entries::entry_at;
-use crate::ranges::is_step;
+use plan::Plan;
+use plan::Sector;
+use plan::entry_at;
+use plan::is_step;
+use plan::rising;
+use plan::sectors_ok;
+use plan::whole_steps;
 use units::Angle;
 
 // A plan of zeros.

@@ -5,8 +5,8 @@ use mathlib.Core.List.{List, [], _∷_}
 use lib.Dec.{eqb}
 use borrow.Author.Tests.{eq-eqb, eqb-true}
 use Rattle.words.specs.Choice.{if_then_else_}
 use Rattle.plan.specs.declared.Sector.{Sector}
-use Rattle.plan.specs.NormalForm.{joined}
+use Rattle.normal.specs.NormalForm.{joined}
 
 -- the third list is `joined` of the sector and the second: the sector stands before them, or is lost to the first of them
 pub data Join (s : Sector) : List Sector → List Sector → Type 0 where

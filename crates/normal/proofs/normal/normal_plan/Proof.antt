@@ -1,7 +1,7 @@
 use borrow.Author.Needs.{needs}
-use Rattle.plan.proofs.Answers.{accepted, refused}
-use Rattle.plan.proofs.normal.normal_plan.Statement.{statement}
-use Rattle.plan.proofs.normal.normal_plan.Tie as tie
+use Rattle.normal.proofs.Answers.{accepted, refused}
+use Rattle.normal.proofs.normal.normal_plan.Statement.{statement}
+use Rattle.normal.proofs.normal.normal_plan.Tie as tie
 
 pub normal-plan-spec : {M : Type 1} → statement M
 normal-plan-spec =

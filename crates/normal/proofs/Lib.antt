@@ -1,0 +1,10 @@
+-- The theorems
+pub mod Joins
+pub mod NormalSectors
+pub mod NormalRuns
+pub mod Demand3
+pub mod NormalRows
+pub mod Numbers
+-- The functions
+pub mod Joining
+pub mod Answers
