@@ -1,4 +1,4 @@
--- What an accepted list of words has: a head that passes, and a body that is read to the end.
+-- The ways a reading goes, and what a list of words has whose body is read: a head that passes, and the words that are left.
 use Prim.Native.Nat.{ℕ, zero, suc, _%_, _<_}
 use mathlib.Core.Path.{_≡_, refl, sym, _∙_, ap, subst}
 use mathlib.Core.List.{List, [], _∷_}
@@ -7,7 +7,6 @@ use native.Mathlib.Omega.{arith}
 use lib.Dec.{eqb}
 use lib.ListN.{length, getD, drop, length-map}
 use borrow.Author.Tests.{eqb-true, eqb-false}
-use Rattle.words.specs.Choice.{if_then_else_}
 use Rattle.words.specs.Parse.{Got, short, got}
 use Rattle.words.specs.Format.{AllOk}
 use Rattle.words.proofs.Lawful.{Sound, SoundOf}
@@ -17,6 +16,7 @@ use Rattle.reader.specs.Sectors.{sector}
 use Rattle.reader.specs.Readings.{headRefusal, Body, body, refusedReading, acceptedReading, ended, bodyOf, readOf}
 use Rattle.reader.proofs.Heads.{GoodHead, good-head}
 use Rattle.reader.proofs.Bodies.{body-lawful}
+use Rattle.reader.proofs.Readouts.{refused-head, read-whole}
 
 -- the mask and the number of sectors that the first three words say
 abbrev pub maskIn : List ℕ → ℕ
@@ -25,49 +25,71 @@ maskIn ws = getD ws 1 0
 abbrev pub countIn : List ℕ → ℕ
 countIn ws = getD ws 2 0 % 256
 
-pub record Accepted (ws : List ℕ) : Type 0 where
+-- what the body's format finds behind them
+abbrev pub foundIn : List ℕ → Got (Body SectorReading)
+foundIn ws = body (maskIn ws) (countIn ws) .parse 3 (drop 3 ws)
+
+-- a body that is read, with some words left, and what the reader gives then
+pub record Parsed (ws rest : List ℕ) : Type 0 where
   pub head : GoodHead ws
   pub value : Body SectorReading
   pub place : ℕ
-  pub parsed : body (maskIn ws) (countIn ws) .parse 3 (drop 3 ws) ≡ got value place []
-  pub reading : readOf ws ≡ acceptedReading (maskIn ws) (countIn ws) value
+  pub parsed : foundIn ws ≡ got value place rest
+  pub reading : readOf ws ≡ ended (maskIn ws) (countIn ws) (got value place rest)
 
-module _ (mask count : ℕ) where
-  finished : (g : Got (Body SectorReading)) → ended mask count g .refusal ≡ 0 → (a : Body SectorReading) × (b : ℕ) × (g ≡ got a b [])
-  finished short e = absurd (omega arith)
-  finished (got a b []) e = (a, b, refl)
-  finished (got a b (w ∷ ws)) e = absurd (omega arith)
+-- none is left
+abbrev pub Accepted : List ℕ → Type 0
+Accepted ws = Parsed ws []
+
+-- the ways a reading goes: its head is refused, its words end early, some are left over, or it is accepted
+pub data Outcome (ws : List ℕ) : Reading → Type 0 where
+  refused : (headRefusal ws ≡ 0 → ⊥) → Outcome ws (refusedReading (headRefusal ws))
+  cut : GoodHead ws → foundIn ws ≡ short → Outcome ws (refusedReading 15)
+  over : {w : ℕ} {rest : List ℕ} → Parsed ws (w ∷ rest) → Outcome ws (refusedReading 16)
+  whole : (s : Accepted ws) → Outcome ws (acceptedReading (maskIn ws) (countIn ws) (s .value))
+
+module _ (ws : List ℕ) where
+  -- the reader refuses by the head, or gives what the body's format finds
+  pub by-head : (headRefusal ws ≡ 0 → ⊥) → readOf ws ≡ refusedReading (headRefusal ws)
+  by-head h = sym (refused-head ws (headRefusal ws) refl _ h refl)
+
+  pub by-body : headRefusal ws ≡ 0 → {g : Got (Body SectorReading)} → foundIn ws ≡ g → readOf ws ≡ ended (maskIn ws) (countIn ws) g
+  unfolding bodyOf
+  by-body h e = sym (read-whole ws (headRefusal ws) refl _ h (sym (ap (ended (maskIn ws) (countIn ws)) e)))
+
+  abbrev with-left : headRefusal ws ≡ 0 → {a : Body SectorReading} {b : ℕ} {rest : List ℕ} → foundIn ws ≡ got a b rest → Parsed ws rest
+  with-left h {a} {b} e = record { head = good-head ws h; value = a; place = b; parsed = e; reading = by-body h e }
+
+  pub outcome : Outcome ws (readOf ws)
+  outcome = go (eqb (headRefusal ws) 0) refl
+    where
+      found : headRefusal ws ≡ 0 → (g : Got (Body SectorReading)) → foundIn ws ≡ g → Outcome ws (ended (maskIn ws) (countIn ws) g)
+      found h short e = cut (good-head ws h) e
+      found h (got a b []) e = whole (with-left h e)
+      found h (got a b (w ∷ rest)) e = over (with-left h e)
+
+      go : (t : Bool) → eqb (headRefusal ws) 0 ≡ t → Outcome ws (readOf ws)
+      go false p = let h = eqb-false (headRefusal ws) 0 p in rw (by-head h) (refused h)
+      go true p = let h = eqb-true (headRefusal ws) 0 p in rw (by-body h refl) (found h (foundIn ws) refl)
+
+  pub accepted : readOf ws .refusal ≡ 0 → Accepted ws
+  accepted = go outcome
+    where
+      go : {r : Reading} → Outcome ws r → r .refusal ≡ 0 → Accepted ws
+      go (refused h) e = absurd (h e)
+      go (cut h p) e = absurd (omega arith)
+      go (over s) e = absurd (omega arith)
+      go (whole s) e = s
 
   -- a reading that has a sector is not refused
-  counted : (g : Got (Body SectorReading)) → 0 < ended mask count g .count → ended mask count g .refusal ≡ 0
-  counted short h = absurd (omega arith)
-  counted (got a b []) h = refl
-  counted (got a b (w ∷ ws)) h = absurd (omega arith)
-
-pub accepted : (ws : List ℕ) → readOf ws .refusal ≡ 0 → Accepted ws
-unfolding readOf bodyOf
-accepted ws e = go (eqb (headRefusal ws) 0) refl e
-  where
-    go : (t : Bool) → eqb (headRefusal ws) 0 ≡ t → if_then_else_ {A = Reading} t (bodyOf ws) (refusedReading (headRefusal ws)) .refusal ≡ 0 → Accepted ws
-    go false p q = absurd (eqb-false (headRefusal ws) 0 p q)
-    go true p q =
-        let f = finished (maskIn ws) (countIn ws) _ q in
-        record {
-          head = good-head ws (eqb-true (headRefusal ws) 0 p);
-          value = f .0;
-          place = f .1;
-          parsed = f .2;
-          reading = rw p (ap (ended (maskIn ws) (countIn ws)) (f .2));
-        }
-
-pub has-sector : (ws : List ℕ) → 0 < readOf ws .count → readOf ws .refusal ≡ 0
-unfolding readOf bodyOf
-has-sector ws h = go (eqb (headRefusal ws) 0) h
-  where
-    go : (t : Bool) → 0 < if_then_else_ {A = Reading} t (bodyOf ws) (refusedReading (headRefusal ws)) .count
-        → if_then_else_ {A = Reading} t (bodyOf ws) (refusedReading (headRefusal ws)) .refusal ≡ 0
-    go false q = absurd (omega arith)
-    go true q = counted (maskIn ws) (countIn ws) (body (maskIn ws) (countIn ws) .parse 3 (drop 3 ws)) q
+  pub has-sector : 0 < readOf ws .count → readOf ws .refusal ≡ 0
+  has-sector = go outcome
+    where
+      go : {r : Reading} → Outcome ws r → 0 < r .count → r .refusal ≡ 0
+      go (refused h) e = absurd (omega arith)
+      go (cut h p) e = absurd (omega arith)
+      go (over s) e = absurd (omega arith)
+      go (whole s) e = refl
 
 pub all-length : {F : Type 0} (ok : F → Type 0) (n : ℕ) (fs : List F) → AllOk ok n fs → length fs ≡ n
 all-length ok zero [] o = refl
@@ -75,8 +97,8 @@ all-length ok zero (f ∷ fs) o = absurd o
 all-length ok (suc n) [] o = absurd o
 all-length ok (suc n) (f ∷ fs) o = ap suc (all-length ok n fs (o .1))
 
-module _ (ws : List ℕ) (s : Accepted ws) where
-  pub body-sound : Sound (body (maskIn ws) (countIn ws)) ws 3 (s .value) (s .place) []
+module _ {ws rest : List ℕ} (s : Parsed ws rest) where
+  pub body-sound : Sound (body (maskIn ws) (countIn ws)) ws 3 (s .value) (s .place) rest
   body-sound = subst (SoundOf (body (maskIn ws) (countIn ws)) ws 3) (s .parsed) (body-lawful (maskIn ws) (countIn ws) .sound ws 3)
 
   -- as many sectors as the third word says

@@ -1,4 +1,4 @@
--- What stands behind the first three words: its format is lawful, and reading it by places is reading it.
+-- What stands behind the first three words: its format has the laws, and reading it by places is reading it.
 use Prim.Native.Nat.{ℕ, _+_, _%_, _≤_, _<_}
 use mathlib.Core.Path.{_≡_, sym, _∙_, ap}
 use mathlib.Core.List.{List, []}
@@ -15,28 +15,31 @@ use Rattle.words.specs.Parse.{Got, short, got}
 use Rattle.words.specs.Places.{takeAt}
 use Rattle.words.specs.Format.{Format, times}
 use Rattle.words.proofs.BitLaws.{bit-zero}
-use Rattle.words.proofs.Lawful.{Lawful, SoundOf, KeptOf, nothing-lawful}
-use Rattle.words.proofs.Formats.{optional-lawful, join-lawful, times-lawful}
+use Rattle.words.proofs.Lawful.{Lawful, SoundOf, KeptOf}
+use Rattle.words.proofs.Extends.{Extends, nothing-extends, optional-extends, join-extends, times-extends}
 use Rattle.words.proofs.Tracks.{Tracks, outAt, in-out, past-out, nothing-tracks, optional-tracks, join-tracks}
 use Rattle.reader.specs.declared.SectorReading.{SectorReading}
 use Rattle.reader.specs.declared.Sectors.{Sectors}
 use Rattle.reader.specs.Sectors.{sector}
 use Rattle.reader.specs.Readings.{Body, body, refusedReading, ended}
 use Rattle.reader.specs.Steps.{valueOf, placeOf, fromPlace, sectorsOf}
-use Rattle.reader.proofs.SectorPlaces.{sector-lawful}
+use Rattle.reader.proofs.SectorPlaces.{sector-extends}
 
-pub sectors-lawful : (mask count : ℕ) → Lawful (times count (sector mask))
-sectors-lawful mask count = times-lawful (sector mask) (sector-lawful mask) count
+pub sectors-extends : (mask count : ℕ) → Extends (times count (sector mask))
+sectors-extends mask count = times-extends (sector mask) (sector-extends mask) count
+
+pub body-extends : (mask count : ℕ) → Extends (body mask count)
+body-extends mask count =
+    optional-extends (bit mask 0) _ λ sent.
+    optional-extends (bit mask 1) _ λ counter.
+    optional-extends (bit mask 2) _ λ layer.
+    join-extends _ _ (sectors-extends mask count) (
+    optional-extends (bit mask 13) _ λ high.
+    optional-extends (bit mask 13) _ λ low.
+    nothing-extends)
 
 pub body-lawful : (mask count : ℕ) → Lawful (body mask count)
-body-lawful mask count =
-    optional-lawful (bit mask 0) _ λ sent.
-    optional-lawful (bit mask 1) _ λ counter.
-    optional-lawful (bit mask 2) _ λ layer.
-    join-lawful _ _ (sectors-lawful mask count) (
-    optional-lawful (bit mask 13) _ λ high.
-    optional-lawful (bit mask 13) _ λ low.
-    nothing-lawful)
+body-lawful mask count = body-extends mask count .lawful
 
 -- any lawful format, read from a place
 module _ {A F : Type 0} (c : Format A F) (lawful : Lawful c) (d : A) (ws : List ℕ) (i : ℕ) where
@@ -75,7 +78,7 @@ module _ (mask count : ℕ) (ws : List ℕ) (long : 3 ≤ length ws) where
     optional-tracks (bit mask 0) _ _ _ _ _ _ λ sent i₁.
         optional-tracks (bit mask 1) _ _ _ _ _ _ λ counter i₂.
         optional-tracks (bit mask 2) _ _ _ _ _ _ λ layer i₃.
-        join-tracks _ _ (found-tracks (times count (sector mask)) (sectors-lawful mask count) [] ws i₃) (
+        join-tracks _ _ (found-tracks (times count (sector mask)) (sectors-extends mask count .lawful) [] ws i₃) (
         optional-tracks (bit mask 13) _ _ _ _ _ _ λ high i₄.
         optional-tracks (bit mask 13) _ _ _ _ _ _ λ low i₅.
         nothing-tracks _ _ i₅),

@@ -1,11 +1,11 @@
 -- The first three words: what each way out of their tests gives, and what holds where they pass.
 use Prim.Native.Nat.{ℕ, suc, _+_, _/_, _%_, _≤_, _<_}
 use mathlib.Core.Path.{_≡_, refl, sym, _∙_}
-use mathlib.Core.List.{List, [], _∷_}
+use mathlib.Core.List.{List, [], _∷_, _++_}
 use mathlib.Core.Bool.{Bool, true, false, not, _&&_}
 use native.Mathlib.Omega.{arith}
 use lib.Dec.{T, eqb, leb}
-use lib.ListN.{length, getD}
+use lib.ListN.{length, getD, drop}
 use borrow.Author.Tests.{eq-eqb, ne-eqb, le-leb, lt-leb, eqb-true, leb-true}
 use Rattle.words.specs.Choice.{if_then_else_}
 use Rattle.words.specs.Bits.{bit}
@@ -125,3 +125,28 @@ head-has ws i e h = omega (arith, head-long ws e)
 
 pub head-behind : (ws : List ℕ) → headRefusal ws ≡ 0 → 3 ≤ length ws + 1
 head-behind ws e = omega (arith, head-long ws e)
+
+-- the head gives no number of the body's
+pub head-below : (ws : List ℕ) → headRefusal ws < 15
+unfolding headRefusal
+head-below ws = below (some ws && eqb (getD ws 0 0) 0x8301) (leb 3 (length ws) && maskOk (getD ws 1 0) && sectorsOk (getD ws 2 0)) (uncounted (getD ws 1 0))
+  where
+    below : (a b c : Bool) → (if not a then 12 else if not b then 13 else if c then 14 else 0) < 15
+    below false b c = omega arith
+    below true false c = omega arith
+    below true true true = omega arith
+    below true true false = omega arith
+
+-- the first three words, and those behind them, which change nothing for the head
+pub three : (ws : List ℕ) → 3 ≤ length ws → ws ≡ getD ws 0 0 ∷ getD ws 1 0 ∷ getD ws 2 0 ∷ drop 3 ws
+three [] h = absurd (omega arith)
+three (x ∷ []) h = absurd (omega arith)
+three (x ∷ y ∷ []) h = absurd (omega arith)
+three (x ∷ y ∷ z ∷ ws) h = refl
+
+pub head-front : (ws more : List ℕ) → 3 ≤ length ws → headRefusal (ws ++ more) ≡ headRefusal ws
+unfolding headRefusal
+head-front ws more h = rw (three ws h) (simp three-long)
+  where
+    three-long : (n : ℕ) → leb 3 (suc (suc (suc n))) ≡ true
+    three-long n = le-leb 3 (suc (suc (suc n))) (omega arith)

@@ -5,6 +5,8 @@ pub mod Bodies
 pub mod Readouts
 pub mod Accepted
 pub mod PointPlaces
+pub mod Laid
 pub mod RoundTrip
+pub mod Numbers
 pub mod PointNumbers
 pub mod ByPlace

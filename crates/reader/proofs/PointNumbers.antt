@@ -1,6 +1,7 @@
 -- The points of a sector of an accepted reading: as many words as their number and the mask say, and none where the mask leaves either out.
 use Prim.Native.Nat.{ℕ, zero, suc, _*_, _<_}
 use mathlib.Core.Path.{_≡_, refl, sym, _∙_}
+use mathlib.Core.Logic.{inl, inr}
 use mathlib.Core.Bool.{Bool, true, false}
 use mathlib.Core.List.{List, [], _∷_, map}
 use native.Mathlib.Nat.{zero-mul, mul-zero}
@@ -20,6 +21,7 @@ use Rattle.reader.specs.declared.SectorReading.{SectorReading}
 use Rattle.reader.specs.Sectors.{sector, blankSector}
 use Rattle.reader.specs.Readings.{readOf}
 use Rattle.reader.specs.Stretches.{stretchOf}
+use Rattle.reader.specs.Demands.{NoPoints}
 use Rattle.reader.proofs.Accepted.{maskIn, countIn, body-sound}
 use Rattle.reader.proofs.PointPlaces.{whole, found, read-there, at-place, in-words}
 
@@ -39,20 +41,24 @@ module _ (ws : List ℕ) (place : ℕ) (here : place < readOf ws .count) where
 
   ok : sector (maskIn ws) .ok (sector (maskIn ws) .strip ws at)
   ok =
-      let all : AllOk (sector (maskIn ws) .ok) (countIn ws) (map (sector (maskIn ws) .strip ws) (found ws place here)) = body-sound ws (whole ws place here) .fits .1 .1 .1 .0 in
+      let all : AllOk (sector (maskIn ws) .ok) (countIn ws) (map (sector (maskIn ws) .strip ws) (found ws place here)) = body-sound (whole ws place here) .fits .1 .1 .1 .0 in
       rw (at-place ws place here) (each-at blankSector place (all-mapped _ _ (countIn ws) (found ws place here) all) (read-there ws place here))
 
-  pub point-words : at .len ≡ numberOf (at .points) * pointWidth (maskIn ws)
+  point-words : at .len ≡ numberOf (at .points) * pointWidth (maskIn ws)
   point-words = sym (length-take-le (at .len) (drop (at .start) ws) (rw length-drop (omega (arith, in-words ws place here)))) ∙ ok .1 .1 .1 .1 .1 .0
 
   -- bit 5 is clear
-  pub unnumbered : bit (maskIn ws) 5 ≡ false → at .len ≡ 0
+  unnumbered : bit (maskIn ws) 5 ≡ false → at .len ≡ 0
   unnumbered e = point-words ∙ rw (left-out (bit (maskIn ws) 5) (at .points) (ok .1 .1 .0) e, zero-mul)
 
   -- bits 8 to 10 are clear
-  pub wordless : pointWidth (maskIn ws) ≡ 0 → at .len ≡ 0
+  wordless : pointWidth (maskIn ws) ≡ 0 → at .len ≡ 0
   wordless e = point-words ∙ rw (e, mul-zero)
 
-  pub no-words : at .len ≡ 0 → stretchOf ws place ≡ []
+  no-words : at .len ≡ 0 → stretchOf ws place ≡ []
   unfolding stretchOf
   no-words e = rw (lt-ltb place (readOf ws .count) here, e)
+
+pub no-points : NoPoints
+no-points ws place here (inl e) = no-words ws place here (unnumbered ws place here e)
+no-points ws place here (inr e) = no-words ws place here (wordless ws place here e)

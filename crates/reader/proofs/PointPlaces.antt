@@ -28,7 +28,7 @@ module _ (ws : List ℕ) (place : ℕ) (here : place < readOf ws .count) where
   below = rw (whole .reading) at here
 
   pub read-there : place < length found
-  read-there = omega (arith, below, many-sectors ws whole)
+  read-there = omega (arith, below, many-sectors whole)
 
   -- it is the one that was read there
   pub at-place : getD (readOf ws .sectors) place blankSector ≡ getD found place blankSector

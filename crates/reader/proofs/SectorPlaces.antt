@@ -1,4 +1,4 @@
--- The sector: its format is lawful, and reading it by places is reading it.
+-- The sector: its format has the laws, and reading it by places is reading it.
 use Prim.Native.Nat.{ℕ, _+_, _*_, _≤_, _<_, zero-le}
 use mathlib.Core.Path.{_≡_, refl, sym, _∙_, ap}
 use mathlib.Core.List.{List}
@@ -9,27 +9,30 @@ use Rattle.words.specs.Bits.{bit}
 use Rattle.words.specs.Words.{numberOf}
 use Rattle.words.specs.Places.{takeAt, skipAt}
 use Rattle.words.proofs.Takes.{took-within}
-use Rattle.words.proofs.Lawful.{Lawful, nothing-lawful, many-lawful, recast-lawful}
-use Rattle.words.proofs.Formats.{optional-lawful, join-lawful}
+use Rattle.words.proofs.Lawful.{Lawful}
+use Rattle.words.proofs.Extends.{Extends, nothing-extends, many-extends, optional-extends, join-extends, recast-extends}
 use Rattle.words.proofs.Tracks.{Tracks, outAt, in-out, past-out, nothing-tracks, many-tracks, optional-tracks, join-tracks, recast-tracks}
 use Rattle.layout.specs.Masks.{pointWidth}
 use Rattle.reader.specs.declared.Step.the-variants.{Cut, Whole}
 use Rattle.reader.specs.declared.SectorReading.{SectorReading}
 use Rattle.reader.specs.Sectors.{toReading, fromReading, toFields, fromFields, rawSector, sector, stepOf}
 
-pub sector-lawful : (mask : ℕ) → Lawful (sector mask)
-sector-lawful mask =
-    recast-lawful toReading fromReading toFields fromFields (rawSector mask)
-    (optional-lawful (bit mask 3) _ λ number.
-    optional-lawful (bit mask 4) _ λ step.
-    optional-lawful (bit mask 5) _ λ points.
-    optional-lawful (bit mask 6) _ λ tstart.
-    optional-lawful (bit mask 7) _ λ startdir.
-    join-lawful _ _ (many-lawful (numberOf points * pointWidth mask)) (
-    optional-lawful (bit mask 11) _ λ tend.
-    optional-lawful (bit mask 12) _ λ enddir.
-    nothing-lawful))
+pub sector-extends : (mask : ℕ) → Extends (sector mask)
+sector-extends mask =
+    recast-extends toReading fromReading toFields fromFields (rawSector mask)
+    (optional-extends (bit mask 3) _ λ number.
+    optional-extends (bit mask 4) _ λ step.
+    optional-extends (bit mask 5) _ λ points.
+    optional-extends (bit mask 6) _ λ tstart.
+    optional-extends (bit mask 7) _ λ startdir.
+    join-extends _ _ (many-extends (numberOf points * pointWidth mask)) (
+    optional-extends (bit mask 11) _ λ tend.
+    optional-extends (bit mask 12) _ λ enddir.
+    nothing-extends))
     (λ a. refl) (λ g. refl) (λ f. refl)
+
+pub sector-lawful : (mask : ℕ) → Lawful (sector mask)
+sector-lawful mask = sector-extends mask .lawful
 
 -- the steps of the reader, each from the place behind the one before
 pub record Walk (mask : ℕ) (ws : List ℕ) : Type 0 where

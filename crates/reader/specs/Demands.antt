@@ -1,15 +1,21 @@
--- Demand 2, of the reader, as statements. The proofs stand in proofs/RoundTrip.antt, that of the last in proofs/ByPlace.antt.
+-- What is promised of the reader, as statements. The proofs stand in proofs/RoundTrip.antt, Numbers.antt, PointNumbers.antt and, of the
+-- last, ByPlace.antt.
 use mathlib.Core.Path.{_≡_}
-use mathlib.Core.Logic.{_↔_}
-use mathlib.Core.List.{List, [], _∷_}
-use Prim.Native.Nat.{ℕ}
-use lib.ListN.{getD}
+use mathlib.Core.Logic.{_↔_, _⊎_}
+use mathlib.Core.Bool.{false}
+use mathlib.Core.List.{List, [], _∷_, _++_}
+use Prim.Native.Nat.{ℕ, _≤_, _<_}
+use lib.Dec.{T}
+use lib.ListN.{length, getD}
+use Rattle.words.specs.Bits.{bit}
+use Rattle.words.specs.Lists.{some}
 use Rattle.words.specs.Words.{numberOf}
+use Rattle.layout.specs.Masks.{pointWidth}
 use Rattle.layout.specs.Fields.{Fields}
 use Rattle.layout.specs.Layout.{layout, Acceptable}
-use Rattle.reader.specs.Readings.{readOf}
+use Rattle.reader.specs.Readings.{headRefusal, refusedReading, readOf}
 use Rattle.reader.specs.Sectors.{blankSector}
-use Rattle.reader.specs.Stretches.{stretchOf, fieldsIn, together}
+use Rattle.reader.specs.Stretches.{stretchRefusalOf, stretchOf, fieldsIn, together}
 
 -- the reader takes a list of words exactly when it is the layout of such fields
 abbrev pub AcceptsExactly : Type 0
@@ -26,6 +32,46 @@ ReadsBack = (f : Fields) → Acceptable f → (readOf (layout f) .refusal ≡ 0)
 -- two records of fields with equal words are equal
 abbrev pub OneReading : Type 0
 OneReading = (f g : Fields) → Acceptable f → Acceptable g → layout f ≡ layout g → f ≡ g
+
+-- words that are laid out up to where they end, behind the first three: more of them would make a profile
+abbrev pub EndEarly : List ℕ → Type 0
+EndEarly ws = (3 ≤ length ws) × ((f : Fields) × (more : List ℕ) × Acceptable f × T (some more) × (ws ++ more ≡ layout f))
+
+-- a profile, and more words behind it
+abbrev pub LeftOver : List ℕ → Type 0
+LeftOver ws = (f : Fields) × (more : List ℕ) × Acceptable f × T (some more) × (ws ≡ layout f ++ more)
+
+-- 'Numbers for no' 12 to 16, "as numbered", each given exactly then: 12 to 14 go by the first three words
+pub record Numbered (ws : List ℕ) : Type 0 where
+  pub by-head : (headRefusal ws ≡ 0 → ⊥) → readOf ws .refusal ≡ headRefusal ws
+  pub early : (readOf ws .refusal ≡ 15) ↔ EndEarly ws
+  pub over : (readOf ws .refusal ≡ 16) ↔ LeftOver ws
+
+abbrev pub RefusalsExactly : Type 0
+RefusalsExactly = (ws : List ℕ) → Numbered ws
+
+-- of a stretch: "reads the words first, so 12 to 16 come before 17", and 17 exactly where the place is not below S
+pub record Placed (ws : List ℕ) (place : ℕ) : Type 0 where
+  pub words-first : (readOf ws .refusal ≡ 0 → ⊥) → stretchRefusalOf ws place ≡ readOf ws .refusal
+  pub not-below : readOf ws .refusal ≡ 0 → readOf ws .count ≤ place → stretchRefusalOf ws place ≡ 17
+  pub below : readOf ws .refusal ≡ 0 → place < readOf ws .count → stretchRefusalOf ws place ≡ 0
+
+abbrev pub StretchNumbers : Type 0
+StretchNumbers = (ws : List ℕ) (place : ℕ) → Placed ws place
+
+-- "A refused reading has every field absent and each place and length 0; a refused stretch is empty."
+pub record Blank (ws : List ℕ) : Type 0 where
+  pub reading : (readOf ws .refusal ≡ 0 → ⊥) → readOf ws ≡ refusedReading (readOf ws .refusal)
+  pub stretch : (place : ℕ) → (stretchRefusalOf ws place ≡ 0 → ⊥) → stretchOf ws place ≡ []
+
+abbrev pub RefusalsGiveNothing : Type 0
+RefusalsGiveNothing = (ws : List ℕ) → Blank ws
+
+-- "With bit 5 clear, or bits 8 to 10 clear, the stretch is empty"
+abbrev pub NoPoints : Type 0
+NoPoints =
+    (ws : List ℕ) (place : ℕ) → place < readOf ws .count → (bit (getD ws 1 0) 5 ≡ false) ⊎ (pointWidth (getD ws 1 0) ≡ 0)
+    → stretchOf ws place ≡ []
 
 -- two sectors of one distance each, whose number words stand the wrong way round
 abbrev pub turnedRound : List ℕ

@@ -2,14 +2,12 @@
 use Prim.Native.Nat.{ℕ, zero, suc, _+_}
 use mathlib.Core.Path.{_≡_, refl, sym, _∙_, ap, subst}
 use mathlib.Core.List.{List, [], _∷_, _++_, append-assoc}
-use mathlib.Core.Bool.{Bool}
 use lib.ListN.{length, drop}
-use Rattle.words.specs.declared.Word.{Word}
 use Rattle.words.specs.Lists.{none, this}
 use Rattle.words.specs.Words.{laidAll}
 use Rattle.words.specs.Parse.{Got, short, got, Parser, after, mapGot, timesParse}
-use Rattle.words.specs.Format.{Format, one, chain, optional, join, AllOk, times}
-use Rattle.words.proofs.Lawful.{Sound, SoundOf, KeptOf, InsideOf, Complete, Lawful, one-lawful}
+use Rattle.words.specs.Format.{Format, chain, AllOk, times}
+use Rattle.words.proofs.Lawful.{Sound, SoundOf, KeptOf, InsideOf, Complete, Lawful}
 
 -- m is k and then l, which may go by what k read; make puts what both read together
 pub record Makes {A F B G C H : Type 0} (k : Format A F) (l : A → Format B G) (m : Format C H) (make : A → B → C) : Type 0 where
@@ -89,12 +87,6 @@ module _ {K A F B G : Type 0} (k : Format A F) (key : A → K) (keyF : F → K) 
         kept = λ b ws. both-kept k _ _ _ chain-makes b ws (k .parse b ws) (k-lawful .kept b ws) (λ a. l-lawful (key a) .kept);
         within = λ b ws. both-within k _ _ _ chain-makes b ws (k .parse b ws) (k-lawful .kept b ws) (k-lawful .within b ws) (λ a. l-lawful (key a) .within);
       }
-
-pub optional-lawful : {B G : Type 0} (on : Bool) (l : Word → Format B G) → ((w : Word) → Lawful (l w)) → Lawful (optional on l)
-optional-lawful on l h = chain-lawful (one on) (λ w. w) (λ w. w) l (one-lawful on) h (λ W a. refl)
-
-pub join-lawful : {A F B G : Type 0} (k : Format A F) (l : Format B G) → Lawful k → Lawful l → Lawful (join k l)
-join-lawful k l h i = chain-lawful k (λ _. tt {0}) (λ _. tt {0}) (λ _. l) h (λ _. i) (λ W a. refl)
 
 -- n times
 module _ {A F : Type 0} (k : Format A F) (k-lawful : Lawful k) where

@@ -1,5 +1,5 @@
 -- What a format's reader and layout have to do with each other, for the formats of which the others are made.
-use Prim.Native.Nat.{ℕ, _+_, _≤_}
+use Prim.Native.Nat.{ℕ, _+_, _≤_, _<_}
 use mathlib.Core.Path.{_≡_, refl, sym, _∙_, ap, subst}
 use mathlib.Core.List.{List, [], _∷_, _++_}
 use mathlib.Core.Bool.{Bool, true, false}
@@ -7,7 +7,7 @@ use native.Mathlib.Omega.{arith}
 use lib.ListN.{length, drop, length-drop, length-append, take-append-drop}
 use lib.Seq.{length-take-le, drop-drop, take-at, drop-at}
 use lib.Dec.{leb}
-use borrow.Author.Tests.{leb-true, le-leb}
+use borrow.Author.Tests.{leb-true, leb-false, le-leb}
 use Rattle.words.specs.Choice.{if_then_else_}
 use Rattle.words.specs.declared.Word.{Word}
 use Rattle.words.specs.declared.Word.the-variants.{Absent, Given}
@@ -101,13 +101,14 @@ many-complete n W b f post o e =
       behind = sym (drop-drop n b W) ∙ ap (drop n) e ∙ drop-at f post n o;
     }
 
--- what holds where the n words are there, and where nothing is found
-by-span : (P : Got Span → Type 0) (n b : ℕ) (ws : List ℕ) → (n ≤ length ws → P (got (record { start = b; len = n }) (b + n) (drop n ws))) → P short → P (span n b ws)
+-- what holds where the n words are there, and where they are not
+pub by-span : (P : Got Span → Type 0) (n b : ℕ) (ws : List ℕ) → (n ≤ length ws → P (got (record { start = b; len = n }) (b + n) (drop n ws)))
+    → (length ws < n → P short) → P (span n b ws)
 by-span P n b ws h s = go (leb n (length ws)) refl
   where
     go : (t : Bool) → leb n (length ws) ≡ t → P (if t then got (record { start = b; len = n }) (b + n) (drop n ws) else short)
     go true e = h (leb-true n (length ws) e)
-    go false e = s
+    go false e = s (leb-false n (length ws) e)
 
 many-sound : (n : ℕ) (W : List ℕ) (b : ℕ) → n ≤ length (drop b W) → Sound (many n) W b (record { start = b; len = n }) (b + n) (drop n (drop b W))
 many-sound n W b h = record { rest = sym (drop-drop n b W); words = sym (take-append-drop n (drop b W)); fits = length-take-le n (drop b W) h }
@@ -115,10 +116,10 @@ many-sound n W b h = record { rest = sym (drop-drop n b W); words = sym (take-ap
 pub many-lawful : (n : ℕ) → Lawful (many n)
 many-lawful n =
     record {
-      sound = λ W b. by-span (SoundOf (many n) W b) n b (drop b W) (many-sound n W b) tt;
+      sound = λ W b. by-span (SoundOf (many n) W b) n b (drop b W) (many-sound n W b) (λ _. tt);
       complete = many-complete n;
-      kept = λ b ws. by-span (KeptOf b ws) n b ws (λ h. omega (arith, length-drop n ws)) tt;
-      within = λ b ws. by-span (InsideOf (many n) (b + length ws)) n b ws (λ h. omega arith) tt;
+      kept = λ b ws. by-span (KeptOf b ws) n b ws (λ h. omega (arith, length-drop n ws)) (λ _. tt);
+      within = λ b ws. by-span (InsideOf (many n) (b + length ws)) n b ws (λ h. omega arith) (λ _. tt);
     }
 
 -- the same under other types

@@ -7,4 +7,5 @@ pub mod BitLaws
 pub mod Takes
 pub mod Lawful
 pub mod Formats
+pub mod Extends
 pub mod Tracks

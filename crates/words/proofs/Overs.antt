@@ -39,7 +39,3 @@ module _ (ws d out : List ℕ) (i n : ℕ) (laid : out ≡ over (take i ws) d) w
   over-done h k =
       let same : n ≡ i = omega arith in
       rw same laid
-
-pub over-front : (ws d : List ℕ) (i : ℕ) → i ≤ length ws → over (take i ws) d ≡ take i ws ++ drop i d
-unfolding over
-over-front ws d i h = rw (length-take-le i ws h)

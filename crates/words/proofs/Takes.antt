@@ -36,16 +36,6 @@ take-within true ws at h = go (ltb at (length ws)) refl
     go true e = omega (arith, ltb-true at (length ws) e)
     go false e = omega arith
 
-pub skip-within : (n : ℕ) (ws : List ℕ) (at : ℕ) → skipAt n ws at ≤ length ws + 1
-unfolding skipAt
-skip-within n ws at = go (ltb (length ws) at) (ltb (length ws - at) n) refl refl
-  where
-    go : (t u : Bool) → ltb (length ws) at ≡ t → ltb (length ws - at) n ≡ u
-        → (if t then length ws + 1 else if u then length ws + 1 else at + n) ≤ length ws + 1
-    go true u e f = omega arith
-    go false true e f = omega arith
-    go false false e f = omega (arith, ltb-false (length ws) at e, ltb-false (length ws - at) n f)
-
 -- the same of what a reader holds
 pub took-within : (on : Bool) (ws : List ℕ) (at : ℕ) (r : Took) → r ≡ takeAt on ws at → at ≤ length ws + 1 → r .at ≤ length ws + 1
 took-within on ws at r e h = rw e (take-within on ws at h)

@@ -5,6 +5,7 @@ use Prim.Native.Nat.{ℕ}
 use lib.Dec.{T, eqb}
 use borrow.Author.Needs.{needs}
 use borrow.Author.Tests.{not-true, not-false, eq-eqb, ne-eqb, lt-ltb, le-ltb, le-leb, lt-leb}
+use Rattle.words.specs.Choice.{if_then_else_}
 
 -- the parts of a test of two
 pub and-l : (a b : Bool) → T (a && b) → T a
@@ -32,6 +33,11 @@ holds e = subst T (sym e) tt
 
 pub eq-holds : (a b : ℕ) → a ≡ b → T (eqb a b)
 eq-holds a b e = rw (eq-eqb a b e) tt
+
+-- what holds of two holds of the one that a test picks
+pub picked : {A : Type 0} (P : A → Type 0) (b : Bool) (x y : A) → P x → P y → P (if b then x else y)
+picked P true x y h k = h
+picked P false x y h k = k
 
 -- each test from its fact, beside the usual needs
 pub ruleset picks = (eq-eqb, ne-eqb, lt-ltb, le-ltb, le-leb, lt-leb, needs)

@@ -1,0 +1,117 @@
+-- Demand 1 of the reader: each number for no is given exactly then, and with it nothing else.
+use Prim.Native.Nat.{ℕ, _≤_}
+use mathlib.Core.Path.{_≡_, refl, sym, _∙_, ap, subst}
+use mathlib.Core.Bool.{Bool, true, false}
+use mathlib.Core.List.{List, [], _∷_, _++_, append-assoc, append-nil}
+use native.Mathlib.Omega.{arith}
+use lib.Dec.{T, ltb}
+use lib.ListN.{length, drop}
+use borrow.Author.Tests.{ltb-true, ltb-false}
+use Rattle.words.specs.Lists.{some}
+use Rattle.words.proofs.Extends.{Extended, ExtendedOf}
+use Rattle.layout.specs.Fields.{Fields}
+use Rattle.layout.specs.Layout.{layout, Acceptable}
+use Rattle.reader.specs.declared.Reading.{Reading}
+use Rattle.reader.specs.Readings.{headRefusal, body, refusedReading, readOf}
+use Rattle.reader.specs.Stretches.{stretchRefusalOf, stretchOf}
+use Rattle.reader.specs.Demands.{EndEarly, LeftOver, RefusalsExactly, RefusalsGiveNothing, StretchNumbers}
+use Rattle.reader.proofs.Heads.{GoodHead, head-below, head-front}
+use Rattle.reader.proofs.Bodies.{body-extends}
+use Rattle.reader.proofs.Accepted.{maskIn, countIn, Parsed, Outcome, refused, cut, over, whole, by-head, outcome, has-sector}
+use Rattle.reader.proofs.Laid.{fieldsOf, acceptable, laid}
+use Rattle.reader.proofs.PointPlaces.{no-stretch, refused-reading, has-stretch, past-sectors}
+use Rattle.reader.proofs.RoundTrip.{fields, fields-fit, laid-out, head-passes, reading, reads-back}
+
+some-behind : {A : Type 0} (xs ys : List A) → T (some ys) → T (some (xs ++ ys))
+some-behind [] ys t = t
+some-behind (x ∷ xs) ys t = tt
+
+-- words behind a profile are left over
+over-laid : (f : Fields) → Acceptable f → (more : List ℕ) → T (some more) → readOf (layout f ++ more) .refusal ≡ 16
+over-laid f w [] t = absurd t
+over-laid f w (x ∷ xs) t = ap (λ (r : Reading). r .refusal) (reading f w (x ∷ xs))
+
+-- a profile does not begin with another one
+not-within : (f g : Fields) → Acceptable f → Acceptable g → (more : List ℕ) → T (some more) → layout f ≡ layout g ++ more → ⊥
+not-within f g v w more t e =
+    let taken : readOf (layout g ++ more) .refusal ≡ 0 = subst (λ (ws : List ℕ). readOf ws .refusal ≡ 0) e (reads-back f v .0) in
+    omega (arith, over-laid g w more t)
+
+module _ (ws : List ℕ) where
+  -- where the body's words end early, more of them make a profile
+  early-laid : GoodHead ws → Extended (body (maskIn ws) (countIn ws)) (drop 3 ws) → EndEarly ws
+  early-laid h t =
+      let words = laid ws h (t .fields) (t .fits) (t .more) [] (t .words ∙ sym (append-nil _)) ∙ append-nil _ in
+      (h .long, (fieldsOf (maskIn ws) (t .fields), t .more, acceptable ws h (t .fields) (t .fits), t .some-more, words))
+
+  -- 15 says that the words end early
+  is-early : {r : Reading} → Outcome ws r → r .refusal ≡ 15 → EndEarly ws
+  is-early (refused h) e = absurd (omega (arith, head-below ws))
+  is-early (cut h p) e =
+      early-laid h (subst (ExtendedOf (body (maskIn ws) (countIn ws)) (drop 3 ws)) p (body-extends (maskIn ws) (countIn ws) .extend ws 3))
+  is-early (over s) e = absurd (omega arith)
+  is-early (whole s) e = absurd (omega arith)
+
+  module _ (long : 3 ≤ length ws) (f : Fields) (more : List ℕ) (w : Acceptable f) (t : T (some more)) (is : ws ++ more ≡ layout f) where
+    -- the first three words are a profile's
+    passes : headRefusal ws ≡ 0
+    passes = sym (head-front ws more long) ∙ ap headRefusal (is ∙ sym (append-nil _)) ∙ head-passes f w []
+
+    -- what was read would be a profile within a profile
+    not-read : {rest : List ℕ} → Parsed ws rest → ⊥
+    not-read {rest} s =
+        not-within f (fields s) w (fields-fit s) (rest ++ more) (some-behind rest more t)
+        (sym is ∙ ap (λ (l : List ℕ). l ++ more) (laid-out s) ∙ append-assoc (layout (fields s)) rest more)
+
+    -- words that end early are refused by 15
+    early-is : {r : Reading} → Outcome ws r → r .refusal ≡ 15
+    early-is (refused h) = absurd (h passes)
+    early-is (cut h p) = refl
+    early-is (over s) = absurd (not-read s)
+    early-is (whole s) = absurd (not-read s)
+
+  -- 16 says that words are left over
+  is-over : {r : Reading} → Outcome ws r → r .refusal ≡ 16 → LeftOver ws
+  is-over (refused h) e = absurd (omega (arith, head-below ws))
+  is-over (cut h p) e = absurd (omega arith)
+  is-over (over {w} {rest} s) e = (fields s, w ∷ rest, fields-fit s, tt, laid-out s)
+  is-over (whole s) e = absurd (omega arith)
+
+  -- a refused reading has nothing but its number
+  is-blank : {r : Reading} → Outcome ws r → (r .refusal ≡ 0 → ⊥) → r ≡ refusedReading (r .refusal)
+  is-blank (refused h) n = refl
+  is-blank (cut h p) n = refl
+  is-blank (over s) n = refl
+  is-blank (whole s) n = absurd (n refl)
+
+  -- a refused stretch is empty
+  is-empty : (place : ℕ) → (stretchRefusalOf ws place ≡ 0 → ⊥) → stretchOf ws place ≡ []
+  is-empty place n = go (ltb place (readOf ws .count)) refl
+    where
+      go : (t : Bool) → ltb place (readOf ws .count) ≡ t → stretchOf ws place ≡ []
+      go true e =
+          let here = ltb-true place (readOf ws .count) e in
+          absurd (n (sym (has-stretch ws place (readOf ws) refl (has-sector ws (omega arith)) here)))
+      go false e = sym (no-stretch ws place (readOf ws) refl (ltb-false place (readOf ws .count) e))
+
+pub refusals-exactly : RefusalsExactly
+refusals-exactly ws =
+    record {
+      by-head = λ h. ap (λ (r : Reading). r .refusal) (by-head ws h);
+      early = (is-early ws (outcome ws), λ t. early-is ws (t .0) (t .1 .0) (t .1 .1) (t .1 .2) (t .1 .3) (t .1 .4) (outcome ws));
+      over = (
+        is-over ws (outcome ws),
+        λ t. subst (λ (v : List ℕ). readOf v .refusal ≡ 16) (sym (t .4)) (over-laid (t .0) (t .2) (t .1) (t .3)),
+      );
+    }
+
+pub refusals-give-nothing : RefusalsGiveNothing
+refusals-give-nothing ws = record { reading = is-blank ws (outcome ws); stretch = is-empty ws }
+
+pub stretch-numbers : StretchNumbers
+stretch-numbers ws place =
+    record {
+      words-first = λ n. sym (refused-reading ws place (readOf ws) refl n);
+      not-below = λ e h. sym (past-sectors ws place (readOf ws) refl e h);
+      below = λ e h. sym (has-stretch ws place (readOf ws) refl e h);
+    }
