@@ -23,17 +23,18 @@ use Rattle.profile.specs.Revolutions.{jobAfter, turned, revolved, revolu
 use Rattle.profile.specs.Demands.{RefusalsChangeNothing, listsFit, RefusalsExactly, RangesKept}
 
 -- what holds of every refusal and of the outcome holds of the revolution
-revolution-by : (P : Result → Type 0) (s : State) (g : Given) (room : ℕ) → ((n : ℕ) → P (refused s n)) → P (done (revolved s g)) → P (revolution s g room)
+pub revolution-by : (P : Result → Type 0) (s : State) (g : Given) (room : ℕ) → ((n : ℕ) → (n ≡ 0 → ⊥) → P (refused s n)) → P (done (revolved s g))
+    → P (revolution s g room)
 unfolding revolution
-revolution-by P s g room h k = go (eqb (revolutionRefusal s g) 0)
+revolution-by P s g room h k = go (eqb (revolutionRefusal s g) 0) refl
   where
-    go : (b : Bool) → P (if b then delivered s (revolved s g) room else refused s (revolutionRefusal s g))
-    go true = delivered-by P s (revolved s g) room (h 6) k
-    go false = h (revolutionRefusal s g)
+    go : (b : Bool) → eqb (revolutionRefusal s g) 0 ≡ b → P (if b then delivered s (revolved s g) room else refused s (revolutionRefusal s g))
+    go true e = delivered-by P s (revolved s g) room (h 6 (λ z. omega arith)) k
+    go false e = h (revolutionRefusal s g) (eqb-false _ 0 e)
 
 pub refusals-change-nothing : RefusalsChangeNothing
 refusals-change-nothing s g d =
-    revolution-by (λ x. (x .reply .refusal ≡ 0 → ⊥) → Unchanged s d x) s g (length d) (λ n _. refused-unchanged s n d) (λ n. absurd (n refl))
+    revolution-by (λ x. (x .reply .refusal ≡ 0 → ⊥) → Unchanged s d x) s g (length d) (λ n _ _. refused-unchanged s n d) (λ n. absurd (n refl))
 
 in-order : (a b c f : Bool)
     → _≡_ {A = ℕ}
@@ -85,6 +86,6 @@ job-kept m (Counted left mask sent) h = go (eqb left 1) refl
 pub ranges-kept : RangesKept
 unfolding revolved
 ranges-kept s g room h =
-    revolution-by (λ x. T (inRange (x .reply .state))) s g room (λ _. h)
+    revolution-by (λ x. T (inRange (x .reply .state))) s g room (λ _ _. h)
     (let p = parts s h in
     whole _ (record { config = p .config; working = p .working; stored = p .stored; running = p .running; checks = p .checks; job = job-kept (s .mode) (s .job) (p .job) }))

@@ -4,6 +4,8 @@ use mathlib.Core.List.{List, _++_, map, map-append}
 use Rattle.words.specs.Rows.{Row, Shown}
 use Rattle.plan.specs.Figures.{planRows}
 use Rattle.plan.proofs.PlanRows.{plan-figures}
+use Rattle.normal.specs.Figures.{normalRows}
+use Rattle.normal.proofs.NormalRows.{normal-figures}
 use Rattle.sensor.specs.Figures.{requestRows}
 use Rattle.sensor.proofs.RequestRows.{request-figures}
 use Rattle.profile.specs.Figures.{profileRows}
@@ -15,4 +17,6 @@ both a b h k = rw (map-append (λ (r : Row). r .given) a b, map-append (λ (r : 
 
 pub bench-figures : BenchFigures
 bench-figures p speed v l m =
-    both (planRows p speed ++ requestRows) profileRows (both (planRows p speed) requestRows (plan-figures p speed v l m) request-figures) profile-figures
+    both (planRows p speed ++ normalRows p ++ requestRows) profileRows
+    (both (planRows p speed ++ normalRows p) requestRows (both (planRows p speed) (normalRows p) (plan-figures p speed v l m) (normal-figures p)) request-figures)
+    profile-figures

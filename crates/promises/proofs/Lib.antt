@@ -1,2 +1,7 @@
+pub mod Demanded
+pub mod Determining
 pub mod Exchanged
+pub mod Living
+pub mod ShutOut
+pub mod Refuted
 pub mod Benched

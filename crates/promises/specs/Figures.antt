@@ -5,12 +5,13 @@ use Rattle.words.specs.Rows.{Row, Shown}
 use Rattle.plan.specs.declared.Plan.{Plan}
 use Rattle.plan.specs.Validity.{ValidPlan}
 use Rattle.plan.specs.Figures.{planRows}
+use Rattle.normal.specs.Figures.{normalRows}
 use Rattle.sensor.specs.Figures.{requestRows}
 use Rattle.profile.specs.Figures.{profileRows}
 
 -- for any plan that is valid for step 1 and any speed
 abbrev pub rows : Plan → ℕ → List Row
-rows p speed = planRows p speed ++ requestRows ++ profileRows
+rows p speed = planRows p speed ++ normalRows p ++ requestRows ++ profileRows
 
 abbrev pub BenchFigures : Type 0
 BenchFigures = (p : Plan) (speed : ℕ) → ValidPlan 1 p → 5 ≤ speed → speed ≤ 20 → Shown (rows p speed)

@@ -1,2 +1,8 @@
+-- To be read in this order: the demands, what they cite, and what is shut out.
+pub mod Demands
+pub mod Determined
 pub mod Exchange
+pub mod Life
+pub mod StandIns
+pub mod WrongAnswers
 pub mod Figures

@@ -10,7 +10,7 @@ use lib.ListN.{length, getD}
 use borrow.Author.Tests.{eqb-true}
 use Rattle.words.specs.Choice.{if_then_else_}
 use Rattle.words.specs.Lists.{every}
-use Rattle.words.proofs.Tests.{and-l, and-r, is-true, holds}
+use Rattle.words.proofs.Tests.{and-l, and-r, is-true, holds, picked}
 use Rattle.plan.specs.Checks.{measureError}
 use Rattle.layout.specs.Masks.{cleared}
 use Rattle.state.specs.declared.State.{State}
@@ -30,11 +30,6 @@ use Rattle.sensor.specs.declared.Service.the-variants.{GetStatus, GetSig
 use Rattle.sensor.specs.Table.{rowOf, services, named, serviceOf, outcomeOf}
 use Rattle.sensor.specs.Requests.{isListed, requestRefusal, outcome, requested}
 use Rattle.sensor.specs.Demands.{Tabled, TableHolds, configuration, Stays, OnlyThese}
-
--- what holds of two outcomes holds of the one that a test picks
-picked : (P : Outcome → Type 0) (b : Bool) (o p : Outcome) → P o → P p → P (if b then o else p)
-picked P true o p h k = h
-picked P false o p h k = k
 
 -- the response code is the first word
 abbrev Responds : ℕ → Outcome → Type 0
@@ -88,11 +83,6 @@ all-kept code s = record { config = λ _. refl; working = λ _ _. refl; stored =
 drive-set : (code : ℕ) (s : State) (m : Mode) (r : ℕ) (j : Job) → Keeps code s (withDrive s m r j)
 drive-set code s m r j = record { config = λ _. refl; working = λ _ _. refl; stored = λ _. refl }
 
--- of two states that a test picks from
-chosen : (code : ℕ) (s : State) (b : Bool) (t u : State) → Keeps code s t → Keeps code s u → Keeps code s (if b then t else u)
-chosen code s true t u h k = h
-chosen code s false t u h k = k
-
 stopped : (code : ℕ) (s : State) (m : Mode) → Keeps code s (stopMeasure s m)
 stopped code s Idle = all-kept code s
 stopped code s Rotate = all-kept code s
@@ -103,23 +93,23 @@ keeps GetStatus s a b c d = all-kept _ s
 keeps GetSignal s a b c d = all-kept _ s
 keeps SetSignal s a b c d = record { config = λ _. refl; working = λ _ _. refl; stored = λ _. refl }
 keeps SetConfig s a b c d =
-    picked (λ o. Keeps 0x0201 s (o .after)) (eqb a 0x0010 && configOk b c d) _ _
+    picked (λ (o : Outcome). Keeps 0x0201 s (o .after)) (eqb a 0x0010 && configOk b c d) _ _
     (record { config = λ n. absurd (n refl); working = λ _ _. refl; stored = λ _. refl }) (all-kept _ s)
-keeps GetConfig s a b c d = picked (λ o. Keeps 0x0202 s (o .after)) (eqb a 0x0010) _ _ (all-kept _ s) (all-kept _ s)
+keeps GetConfig s a b c d = picked (λ (o : Outcome). Keeps 0x0202 s (o .after)) (eqb a 0x0010) _ _ (all-kept _ s) (all-kept _ s)
 keeps SetFunction s a b c d = record { config = λ _. refl; working = λ n _. absurd (n refl); stored = λ n. absurd (n refl) }
-keeps GetFunction s a b c d = picked (λ o. Keeps 0x020B s (o .after)) (ltb 7 a) _ _ (all-kept _ s) (all-kept _ s)
+keeps GetFunction s a b c d = picked (λ (o : Outcome). Keeps 0x020B s (o .after)) (ltb 7 a) _ _ (all-kept _ s) (all-kept _ s)
 keeps GetProfile s a b c d =
-    picked (λ o. Keeps 0x0301 s (o .after)) (eqb (cleared b) 0) _ _ (all-kept _ s) (drive-set _ s (s .mode) (s .running) (newJob a (cleared b)))
+    picked (λ (o : Outcome). Keeps 0x0301 s (o .after)) (eqb (cleared b) 0) _ _ (all-kept _ s) (drive-set _ s (s .mode) (s .running) (newJob a (cleared b)))
 keeps CancelProfile s a b c d = drive-set _ s (s .mode) (s .running) Absent
 keeps DoReset s a b c d =
-    chosen _ s (ltb a 2) (coldOf s) _ (record { config = λ _. refl; working = λ _ n. absurd (n refl); stored = λ _. refl })
-    (chosen _ s (eqb a 2) (stopMeasure s (s .mode)) s (stopped _ s (s .mode)) (all-kept _ s))
+    picked (Keeps _ s) (ltb a 2) (coldOf s) _ (record { config = λ _. refl; working = λ _ n. absurd (n refl); stored = λ _. refl })
+    (picked (Keeps _ s) (eqb a 2) (stopMeasure s (s .mode)) s (stopped _ s (s .mode)) (all-kept _ s))
 keeps TransIdle s a b c d = drive-set _ s Idle 0 Absent
 keeps TransRotate s a b c d =
-    chosen _ s (eqb a 0) (withDrive s Rotate (s .speed) Absent) _ (drive-set _ s Rotate (s .speed) Absent)
-    (chosen _ s (speedOk a) (withDrive s Rotate a Absent) (idleOf s) (drive-set _ s Rotate a Absent) (drive-set _ s Idle 0 Absent))
+    picked (Keeps _ s) (eqb a 0) (withDrive s Rotate (s .speed) Absent) _ (drive-set _ s Rotate (s .speed) Absent)
+    (picked (Keeps _ s) (speedOk a) (withDrive s Rotate a Absent) (idleOf s) (drive-set _ s Rotate a Absent) (drive-set _ s Idle 0 Absent))
 keeps TransMeasure s a b c d =
-    chosen _ s (eqb (measureError (s .working) (s .step .0) (s .running)) 0) (withDrive s Measure (s .running) (s .job)) (withDrive s Rotate (s .running) Absent)
+    picked (Keeps _ s) (eqb (measureError (s .working) (s .step .0) (s .running)) 0) (withDrive s Measure (s .running) (s .job)) (withDrive s Rotate (s .running) Absent)
     (drive-set _ s Measure (s .running) (s .job)) (drive-set _ s Rotate (s .running) Absent)
 keeps Unknown s a b c d = all-kept _ s
 

@@ -12,7 +12,7 @@ use Rattle.words.specs.Choice.{if_then_else_}
 use Rattle.words.specs.Lists.{some, every, areWords, firstOf}
 use Rattle.words.specs.Buffers.{over}
 use Rattle.words.proofs.Overs.{over-length}
-use Rattle.words.proofs.Tests.{and-l, and-r, is-true}
+use Rattle.words.proofs.Tests.{and-l, and-r, is-true, picked}
 use Rattle.state.specs.declared.State.{State}
 use Rattle.state.specs.declared.Mode.{Mode}
 use Rattle.state.specs.declared.Mode.the-variants.{Idle, Rotate, Measure}
@@ -159,20 +159,15 @@ only-measure Idle h = absurd h
 only-measure Rotate h = absurd h
 only-measure Measure h = refl
 
--- a service that only answers, one way or the other
-either : (s : State) → Parts s → (b : Bool) (ws vs : List ℕ) → Parts ((if b then answer s ws else answer s vs) .after)
-either s p true ws vs = p
-either s p false ws vs = p
-
 -- each service, where it is allowed
 outcome-kept : (v : Service) (s : State) (a b c d : ℕ) → Parts s → a ≤ 65535 → T (allowed v (s .mode)) → Parts (outcomeOf v s a b c d .after)
 outcome-kept GetStatus s a b c d p l h = p
 outcome-kept GetSignal s a b c d p l h = p
 outcome-kept SetSignal s a b c d p l h = signal-kept s p a
 outcome-kept SetConfig s a b c d p l h = config-kept s p a b c d (λ e. subst (λ (m : Mode). T (allowed SetConfig m)) e h)
-outcome-kept GetConfig s a b c d p l h = either s p (eqb a 0x0010) _ _
+outcome-kept GetConfig s a b c d p l h = picked (λ (o : Outcome). Parts (o .after)) (eqb a 0x0010) _ _ p p
 outcome-kept SetFunction s a b c d p l h = function-kept s p a b c d (λ e. subst (λ (m : Mode). T (allowed SetFunction m)) e h)
-outcome-kept GetFunction s a b c d p l h = either s p (ltb 7 a) _ _
+outcome-kept GetFunction s a b c d p l h = picked (λ (o : Outcome). Parts (o .after)) (ltb 7 a) _ _ p p
 outcome-kept GetProfile s a b c d p l h = profile-kept s p a b l (only-measure (s .mode) h)
 outcome-kept CancelProfile s a b c d p l h = cancel-kept s p
 outcome-kept DoReset s a b c d p l h = reset-kept s p a

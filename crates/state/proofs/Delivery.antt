@@ -11,6 +11,7 @@ use borrow.Author.Tests.{lt-ltb, le-ltb, ltb-false}
 use Rattle.words.specs.Choice.{if_then_else_}
 use Rattle.words.specs.Buffers.{over}
 use Rattle.words.proofs.Overs.{over-none}
+use Rattle.words.proofs.Tests.{picked}
 use Rattle.state.specs.declared.State.{State}
 use Rattle.state.specs.declared.Reply.{Reply}
 use Rattle.state.specs.Replies.{Outcome, Result, refused, delivered, Answered, Unchanged}
@@ -42,11 +43,7 @@ done o = record { reply = reply (o .after) 0 (length (o .words)); written = o .w
 -- what holds of refusal 6 and of the outcome holds of the delivery
 pub delivered-by : (P : Result → Type 0) (s : State) (o : Outcome) (room : ℕ) → P (refused s 6) → P (done o) → P (delivered s o room)
 unfolding delivered
-delivered-by P s o room h k = go (ltb room (length (o .words)))
-  where
-    go : (b : Bool) → P (if b then refused s 6 else done o)
-    go true = h
-    go false = k
+delivered-by P s o room h k = picked P (ltb room (length (o .words))) (refused s 6) (done o) h k
 
 -- the number of a delivery: 6 or none
 pub delivered-number : (s : State) (o : Outcome) (room : ℕ) → delivered s o room .reply .refusal ≡ (if ltb room (length (o .words)) then 6 else 0)

@@ -5,7 +5,6 @@ use borrow.Author.Needs.{needs}
 use lib.ListN.{length}
 use Rattle.words.specs.Buffers.{inTurn, Put}
 use Rattle.words.proofs.Puts.{turns-none}
-use Rattle.words.proofs.Arrays.{long}
 use Rattle.plan.proofs.ArcSums.{count-fits}
 use Rattle.profile.specs.Asked.{given}
 use Rattle.profile.proofs.SectorTurns.{sectorWords, behind-sectors, sector-asked, sector-fits, sector-more, sectors-done}
@@ -26,7 +25,7 @@ write-sectors-spec =
     Inv-loop
     (λ out₀ from distances echoes start rate plan step mask count at₀ k₀ out at k. count - k)
     (λ c κs. search needs)
-    (λ c. (turns-none _ _ _, omega arith, search needs, search (count-fits, long, needs)))
+    (λ c. (turns-none _ _ _, omega arith, search needs, search (count-fits, needs)))
     (λ c κs. search needs)
     (λ c. let h = behind-sectors (c .before .before .before .before .before .before .before .pre) (c .before .before .before .active-count .ensures) (c .before .before .loop .inv .0) (c .before .loop-test .taken) in omega arith)
     (λ c. let h = behind-sectors (c .before .before .before .before .before .before .before .pre) (c .before .before .before .active-count .ensures) (c .before .before .loop .inv .0) (c .before .loop-test .taken) in omega arith)

@@ -1,0 +1,57 @@
+-- The three demands, each as the statements that show it. They stand in the crates that they speak of; this cites them. Proved in
+-- proofs/Demanded.antt.
+use Rattle.normal.specs.Demands.{Demand3 as NormalPlans, AnswersZero, RefusalsExactly as PlanNumbers, RefusalsGiveZeros}
+use Rattle.layout.specs.Lengths.{LayoutLength}
+use Rattle.sensor.specs.Demands.{RefusalsExactly as RequestNumbers, RefusalsChangeNothing as RequestUnchanged, TableHolds, OnlyThese}
+use Rattle.profile.specs.Demands.{RefusalsExactly as RevolutionNumbers, RefusalsChangeNothing as RevolutionUnchanged, NeverLonger, PointsAreShots}
+use Rattle.reader.specs.Demands.{AcceptsExactly, PutTogether, ReadsBack, OneReading, NoPoints, RefusalsExactly as ReaderNumbers, StretchNumbers, RefusalsGiveNothing}
+use Rattle.promises.specs.Determined.{Determined}
+use Rattle.promises.specs.Exchange.{SentIsRead}
+use Rattle.promises.specs.Life.{Life}
+
+-- 1. Every list of words, every lent buffer and every sensor state handed in gets an answer and the call ends. A refusal by number, as
+-- tabled in document 01, writes no word and changes no part of the state. Nobody is asked to check a request first.
+pub record Demand1 : Type 0 where
+  -- an answer to everything, and only one: the contracts ask nothing of the caller. That each call ends is in its own proof
+  pub answered : Determined
+  -- the numbers, each given exactly then
+  pub request-numbers : RequestNumbers
+  pub revolution-numbers : RevolutionNumbers
+  pub plan-numbers : PlanNumbers
+  pub reader-numbers : ReaderNumbers
+  pub stretch-numbers : StretchNumbers
+  -- what a refusal leaves
+  pub request-unchanged : RequestUnchanged
+  pub revolution-unchanged : RevolutionUnchanged
+  pub plan-of-zeros : RefusalsGiveZeros
+  pub reader-gives-nothing : RefusalsGiveNothing
+  -- a sensor that was switched on never comes to refusal 1
+  pub life : Life
+
+-- 2. Answers, next mode, configuration and profile layout are those of the SICK telegram listings as condensed in document 01. The
+-- host's reader takes exactly the word lists laid out as a profile that carry what it needs, and the words put together again from its
+-- reading are the words it was given.
+pub record Demand2 : Type 0 where
+  -- the table and its answers, and what no other service changes
+  pub tabled : TableHolds
+  pub only-these : OnlyThese
+  -- the profile: its points are the run's shots, its length is the formula's, and never above 6544
+  pub points : PointsAreShots
+  pub long : LayoutLength
+  pub never-longer : NeverLonger
+  -- the reader
+  pub accepts-exactly : AcceptsExactly
+  pub put-together : PutTogether
+  pub reads-back : ReadsBack
+  pub one-reading : OneReading
+  pub no-points : NoPoints
+  -- both together
+  pub sent-is-read : SentIsRead
+
+-- 3. Two sector plans, each valid for the same step, have the same normal plan exactly when over one revolution from sector 0 the head
+-- passes the same directions in the same order with the same function at each, those without measurement included. The normal plan
+-- itself runs so, normalising again changes nothing, and no valid plan with fewer active sectors runs so.
+pub record Demand3 : Type 0 where
+  pub normal-plans : NormalPlans
+  -- the call gives the normal plan exactly to the valid plans
+  pub answers-zero : AnswersZero
