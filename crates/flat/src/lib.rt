@@ -27,7 +27,7 @@ fn entry_of(plan: &[u16], k: u8) -> Sector
 }
 
 // The plan of eight entries.
-fn plan_of(plan: &[u16]) -> Plan
+pub fn plan_of(plan: &[u16]) -> Plan
     ensures { λ r. ⌜ r ≡ planOf (now (plan .entry)) ⌝ }
 {
     let a = entry_of(plan, 0);

@@ -1,0 +1,133 @@
+// The call of each kind of case. The places of its words are counted from the case's own first word, its kind.
+use crate::answers::Said;
+use crate::answers::put_all;
+use crate::answers::put_number;
+use crate::cases::list_of;
+use crate::cases::rest;
+use crate::readings::put_reading;
+use crate::states::put_plan;
+use crate::states::put_state;
+use crate::states::state_of;
+use flat::plan_of;
+use state::Reply;
+use units::Angle;
+use units::Time;
+use words::word_at;
+
+// What a reply and the buffer after it say: the count, the next state, and the whole buffer.
+fn say_reply(reply: Reply, buffer: &[u16], out: &mut [u16]) -> Said {
+    let state = reply.state;
+    let mut at = put_number(out, 0, reply.count);
+    at = put_state(out, at, state);
+    at = put_all(out, at, buffer);
+    Said {
+        refusal: reply.refusal,
+        count: at,
+    }
+}
+
+// Kind 1, a request: its words are all that are left of the case.
+fn request(case: &[u16], out: &mut [u16]) -> Said {
+    let mut space = [0u16; 8192];
+    let state = state_of(rest(case, 1));
+    let buffer = list_of(rest(case, 44), &mut space);
+    let reply = sensor::request(state, rest(case, 47), buffer);
+    say_reply(reply, buffer, out)
+}
+
+// Kind 2, a revolution.
+fn revolution(case: &[u16], out: &mut [u16]) -> Said {
+    let mut distance_space = [0u16; 8192];
+    let mut echo_space = [0u16; 8192];
+    let mut space = [0u16; 8192];
+    let state = state_of(rest(case, 1));
+    let start = Time(word_at(case, 44));
+    let distances = list_of(rest(case, 45), &mut distance_space);
+    let echoes = list_of(rest(case, 48), &mut echo_space);
+    let buffer = list_of(rest(case, 51), &mut space);
+    let reply = profile::revolution(state, start, distances, echoes, buffer);
+    say_reply(reply, buffer, out)
+}
+
+// Kind 3, the normal plan.
+fn normal_plan(case: &[u16], out: &mut [u16]) -> Said {
+    let step = Angle(word_at(case, 1));
+    let normalised = normal::normal_plan(plan_of(rest(case, 2)), step);
+    let plan = normalised.plan;
+    Said {
+        refusal: normalised.refusal,
+        count: put_plan(out, 0, plan),
+    }
+}
+
+// Kind 4, a reading of all the words that are left.
+fn read(case: &[u16], out: &mut [u16]) -> Said {
+    let reading = reader::read(rest(case, 1));
+    Said {
+        refusal: reading.refusal,
+        count: put_reading(out, reading),
+    }
+}
+
+// Kind 5, a sector's points in all the words that are left, with the number for no of the call beside it.
+fn stretch(case: &[u16], out: &mut [u16]) -> Said {
+    let place = word_at(case, 1) as usize;
+    let words = rest(case, 2);
+    let refusal = reader::stretch_refusal(words, place);
+    let points = reader::stretch(words, place);
+    Said {
+        refusal,
+        count: put_all(out, 0, points),
+    }
+}
+
+// Kind 6, the fresh state, and every kind that there is not.
+fn fresh(out: &mut [u16]) -> Said {
+    Said {
+        refusal: 0,
+        count: put_state(out, 0, state::fresh()),
+    }
+}
+
+// Kind 7, a profile by plain numbers: that call hands back its count alone.
+fn flat_profile(case: &[u16], out: &mut [u16]) -> Said {
+    let mut distance_space = [0u16; 8192];
+    let mut echo_space = [0u16; 8192];
+    let mut space = [0u16; 8192];
+    let step = word_at(case, 17);
+    let running = word_at(case, 18);
+    let mask = word_at(case, 19);
+    let start = word_at(case, 20);
+    let distances = list_of(rest(case, 21), &mut distance_space);
+    let echoes = list_of(rest(case, 24), &mut echo_space);
+    let buffer = list_of(rest(case, 27), &mut space);
+    let count = flat::slackjib_profile(
+        rest(case, 1),
+        step,
+        running,
+        mask,
+        start,
+        distances,
+        echoes,
+        buffer,
+    );
+    let at = put_number(out, 0, count);
+    Said {
+        refusal: 0,
+        count: put_all(out, at, buffer),
+    }
+}
+
+// The case's call made, and its answer's words put.
+pub(crate) fn answer(case: &[u16], out: &mut [u16]) -> Said {
+    let kind = word_at(case, 0);
+    match kind {
+        1 => request(case, out),
+        2 => revolution(case, out),
+        3 => normal_plan(case, out),
+        4 => read(case, out),
+        5 => stretch(case, out),
+        7 => flat_profile(case, out),
+        _ => fresh(out),
+    }
+}

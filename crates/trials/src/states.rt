@@ -1,0 +1,107 @@
+// Plans and states as words, in and out.
+use crate::answers::put;
+use crate::cases::rest;
+use flat::plan_of;
+use plan::Plan;
+use state::Job;
+use state::Mode;
+use state::State;
+use units::Angle;
+use words::word_at;
+
+// The mode of a word.
+fn mode_of(w: u16) -> Mode {
+    match w {
+        1 => Mode::Idle,
+        2 => Mode::Rotate,
+        _ => Mode::Measure,
+    }
+}
+
+// The job of four words.
+fn job_of(kind: u16, left: u16, mask: u16, sent: u16) -> Job {
+    match kind {
+        0 => Job::Absent,
+        1 => Job::Counted { left, mask, sent },
+        _ => Job::Endless { mask, sent },
+    }
+}
+
+// The state at the front of the words.
+pub(crate) fn state_of(words: &[u16]) -> State {
+    let configured = state::with_config(
+        state::fresh(),
+        word_at(words, 0),
+        word_at(words, 1),
+        Angle(word_at(words, 2)),
+    );
+    let working = plan_of(rest(words, 3));
+    let stored = plan_of(rest(words, 19));
+    let planned = state::with_plans(configured, working, stored);
+    let mode = mode_of(word_at(words, 35));
+    let job = job_of(
+        word_at(words, 39),
+        word_at(words, 40),
+        word_at(words, 41),
+        word_at(words, 42),
+    );
+    let driven = state::with_drive(planned, mode, word_at(words, 36), job);
+    let port = (word_at(words, 37) % 256) as u8;
+    state::with_port(driven, port, word_at(words, 38))
+}
+
+// A plan's 16 words.
+pub(crate) fn put_plan(out: &mut [u16], at: usize, plan: Plan) -> usize {
+    let mut next = at;
+    let mut k: usize = 0;
+    while k < 8 {
+        let sector = plan::entry_at(plan, k);
+        next = put(out, next, sector.function);
+        next = put(out, next, sector.stop.0);
+        k += 1;
+    }
+    next
+}
+
+// Three words.
+fn put_three(out: &mut [u16], at: usize, a: u16, b: u16, c: u16) -> usize {
+    let mut next = put(out, at, a);
+    next = put(out, next, b);
+    put(out, next, c)
+}
+
+// Four words.
+fn put_four(out: &mut [u16], at: usize, a: u16, b: u16, c: u16, d: u16) -> usize {
+    let next = put_three(out, at, a, b, c);
+    put(out, next, d)
+}
+
+// A job's four words, 0 for what it does not have.
+fn put_job(out: &mut [u16], at: usize, job: Job) -> usize {
+    match job {
+        Job::Absent => put_four(out, at, 0, 0, 0, 0),
+        Job::Counted { left, mask, sent } => put_four(out, at, 1, left, mask, sent),
+        Job::Endless { mask, sent } => put_four(out, at, 2, 0, mask, sent),
+    }
+}
+
+// A state's 43 words.
+pub(crate) fn put_state(out: &mut [u16], at: usize, state: State) -> usize {
+    let working = state.working;
+    let stored = state.stored;
+    let mode = state.mode;
+    let job = state.job;
+    let shown = state::mode_number(mode);
+    let mut next = put_three(out, at, state.id, state.speed, state.step.0);
+    next = put_plan(out, next, working);
+    next = put_plan(out, next, stored);
+    next = put_four(
+        out,
+        next,
+        shown,
+        state.running,
+        state.port as u16,
+        state.counter,
+    );
+    put_job(out, next, job)
+}

@@ -1,0 +1,125 @@
+// Counts what cases come to: refusals of each call, served requests by service and mode, profiles sent by step.
+
+use crate::format;
+use crate::services;
+use crate::state::{Job, Mode};
+use crate::trial::{self, Call};
+use std::collections::BTreeMap;
+
+const CALLS: [&str; 7] = ["request", "revolution", "normal plan", "read", "stretch", "fresh state", "plain profile"];
+
+/// The refusals of each call in the order in which document 01 lists them, 0 for none before them.
+const REFUSALS: [&[u16]; 7] = [
+    &[0, 1, 2, 3, 4, 5, 6],
+    &[0, 1, 7, 8, 6],
+    &[0, 9, 10, 11],
+    &[0, 12, 13, 14, 15, 16],
+    &[0, 12, 13, 14, 15, 16, 17],
+    &[0],
+    &[0, 1, 8, 6],
+];
+
+#[derive(Default)]
+struct Counts {
+    cases: usize,
+    refusals: BTreeMap<(usize, u16), usize>,
+    served: BTreeMap<(u16, usize), usize>,
+    errors_of_measure: BTreeMap<u16, usize>,
+    profiles: BTreeMap<u16, usize>,
+    turns_without_job: usize,
+    longest_profile: usize,
+}
+
+fn mode_number(mode: Mode) -> usize {
+    match mode {
+        Mode::Idle => 0,
+        Mode::Rotate => 1,
+        Mode::Measure => 2,
+    }
+}
+
+impl Counts {
+    fn refusal(&mut self, kind: usize, refusal: u16) {
+        *self.refusals.entry((kind, refusal)).or_default() += 1;
+    }
+
+    fn count(&mut self, case: &[u16]) {
+        self.cases += 1;
+        let call = trial::call_of_case(case);
+        let refusal = trial::answer(&call).0;
+        match call {
+            Call::Request { state, words, .. } => {
+                self.refusal(1, refusal);
+                if refusal == 0 {
+                    *self.served.entry((words[0], mode_number(state.mode))).or_default() += 1;
+                    if words[0] == services::TRANS_MEASURE {
+                        let mut room = [0; 8];
+                        services::request(&state, &words, &mut room);
+                        *self.errors_of_measure.entry(room[3]).or_default() += 1;
+                    }
+                }
+            }
+            Call::Revolution { state, turn } => {
+                self.refusal(2, refusal);
+                let outcome = trial::turn_outcome(&state, &turn).0;
+                if refusal == 0 && state.job == Job::Absent {
+                    self.turns_without_job += 1;
+                } else if refusal == 0 {
+                    *self.profiles.entry(state.step).or_default() += 1;
+                    self.longest_profile = self.longest_profile.max(outcome.count);
+                }
+            }
+            Call::NormalPlan { .. } => self.refusal(3, refusal),
+            Call::Read { .. } => self.refusal(4, refusal),
+            Call::Stretch { .. } => self.refusal(5, refusal),
+            Call::FreshState => self.refusal(6, refusal),
+            // this call hands back no refusal: the one of the revolution behind it is counted
+            Call::PlainProfile { state, turn } => self.refusal(7, trial::turn_outcome(&state, &turn).0.refusal),
+        }
+    }
+
+    fn table(&self) -> String {
+        let mut text = format!("{} cases\n\n", self.cases);
+        text += "refusals of each call (kind 6 with the kinds that there are not; kind 7 by its revolution)\n";
+        for kind in 1..=7 {
+            text += &format!("{} {:14}", kind, CALLS[kind - 1]);
+            for refusal in REFUSALS[kind - 1] {
+                let count = self.refusals.get(&(kind, *refusal)).copied().unwrap_or(0);
+                text += &format!("  {}: {}", refusal, count);
+            }
+            text.push('\n');
+        }
+        text += "\nserved requests         IDLE  ROTATE MEASURE\n";
+        for service in &services::TABLE {
+            text += &format!("{:04X} {:15}", service.code, service.name);
+            for mode in [Mode::Idle, Mode::Rotate, Mode::Measure] {
+                let number = mode_number(mode);
+                if service.modes.contains(&mode) {
+                    text += &format!("{:8}", self.served.get(&(service.code, number)).copied().unwrap_or(0));
+                } else {
+                    text += "       -";
+                }
+            }
+            text.push('\n');
+        }
+        text += "errors of TRANS_MEASURE";
+        for error in [0, 3, 4, 1, 2] {
+            text += &format!("  {}: {}", error, self.errors_of_measure.get(&error).copied().unwrap_or(0));
+        }
+        text += "\n\nprofiles sent by step (step 1 has no MEASURE)\n";
+        for step in crate::random_plans::all_steps() {
+            text += &format!("  {}: {}", step, self.profiles.get(&step).copied().unwrap_or(0));
+        }
+        text += &format!("\nrevolutions without a job: {}\n", self.turns_without_job);
+        text += &format!("longest profile: {} words\n", self.longest_profile);
+        text
+    }
+}
+
+pub fn table_of(input: &[u8]) -> String {
+    let mut counts = Counts::default();
+    for case in format::cases_of_input(input) {
+        counts.count(&case);
+    }
+    counts.table()
+}

@@ -1,0 +1,150 @@
+// Document 01, "A revolution and its profile", the host's side: the reading of a profile with refusals 12 to 16, the
+// stretch of a sector's points and the number beside it, with refusal 17.
+
+use crate::revolution::has_bit;
+
+/// The words of one sector, points aside, and where its points stand.
+#[derive(Clone, Copy, PartialEq, Eq, Debug, Default)]
+pub struct SectorReading {
+    pub number: Option<u16>,
+    pub step: Option<u16>,
+    pub points: Option<u16>,
+    pub first_time: Option<u16>,
+    pub first_direction: Option<u16>,
+    pub points_place: usize,
+    pub points_length: usize,
+    pub last_time: Option<u16>,
+    pub last_direction: Option<u16>,
+}
+
+/// "A refused reading has every field absent and each place and length 0": that is the default.
+#[derive(Clone, Copy, PartialEq, Eq, Debug, Default)]
+pub struct Reading {
+    pub mask: Option<u16>,
+    pub sent: Option<u16>,
+    pub counter: Option<u16>,
+    pub layer: Option<u16>,
+    pub sector_count: usize,
+    pub sectors: [SectorReading; 8],
+    pub senstat: [Option<u16>; 2],
+}
+
+const WORDS_END_EARLY: u16 = 15;
+
+/// The words given, with the mask that says which fields they have and the place reached.
+struct Layout<'a> {
+    words: &'a [u16],
+    mask: u16,
+    place: usize,
+}
+
+impl Layout<'_> {
+    /// The next word if the mask has the bit, absent if not.
+    fn field(&mut self, bit: u16) -> Result<Option<u16>, u16> {
+        if !has_bit(self.mask, bit) {
+            return Ok(None);
+        }
+        if self.place >= self.words.len() {
+            return Err(WORDS_END_EARLY);
+        }
+        let word = self.words[self.place];
+        self.place += 1;
+        Ok(Some(word))
+    }
+
+    fn pass(&mut self, length: usize) -> Result<(), u16> {
+        if self.words.len() - self.place < length {
+            return Err(WORDS_END_EARLY);
+        }
+        self.place += length;
+        Ok(())
+    }
+
+    fn sector(&mut self) -> Result<SectorReading, u16> {
+        let mut sector = SectorReading {
+            number: self.field(3)?,
+            step: self.field(4)?,
+            points: self.field(5)?,
+            first_time: self.field(6)?,
+            first_direction: self.field(7)?,
+            ..SectorReading::default()
+        };
+        // "With bit 5 clear, or bits 8 to 10 clear, the stretch is empty and stands at the place reached."
+        let words_per_point = (8..=10).filter(|bit| has_bit(self.mask, *bit)).count();
+        sector.points_place = self.place;
+        sector.points_length = match sector.points {
+            Some(points) => usize::from(points) * words_per_point,
+            None => 0,
+        };
+        self.pass(sector.points_length)?;
+        sector.last_time = self.field(11)?;
+        sector.last_direction = self.field(12)?;
+        Ok(sector)
+    }
+}
+
+/// Reads a profile: the refusal, 0 for none, and the reading.
+pub fn read(words: &[u16]) -> (u16, Reading) {
+    match reading_or_refusal(words) {
+        Ok(reading) => (0, reading),
+        Err(refusal) => (refusal, Reading::default()),
+    }
+}
+
+fn reading_or_refusal(words: &[u16]) -> Result<Reading, u16> {
+    // 12: "no word, or first is not 8301h"
+    if words.is_empty() || words[0] != 0x8301 {
+        return Err(12);
+    }
+    // 13: "under 3 words, mask 0 or with bit 14 or 15, high byte of word 2 not 1, or S not 1 to 8"
+    if words.len() < 3 {
+        return Err(13);
+    }
+    let mask = words[1];
+    let high_byte = words[2] >> 8;
+    let sector_count = usize::from(words[2] & 0x00FF);
+    if mask == 0 || mask & 0xC000 != 0 || high_byte != 1 || !(1..=8).contains(&sector_count) {
+        return Err(13);
+    }
+    // 14: "a bit of 8 to 10 set, bit 5 clear"
+    if (8..=10).any(|bit| has_bit(mask, bit)) && !has_bit(mask, 5) {
+        return Err(14);
+    }
+    // 15: "words end early"
+    let mut layout = Layout { words, mask, place: 3 };
+    let mut reading = Reading { mask: Some(mask), sector_count, ..Reading::default() };
+    reading.sent = layout.field(0)?;
+    reading.counter = layout.field(1)?;
+    reading.layer = layout.field(2)?;
+    for place in 0..sector_count {
+        reading.sectors[place] = layout.sector()?;
+    }
+    reading.senstat = [layout.field(13)?, layout.field(13)?];
+    // 16: "words left over"
+    if layout.place != words.len() {
+        return Err(16);
+    }
+    Ok(reading)
+}
+
+/// The number beside the stretch: "reads the words first, so 12 to 16 come before 17".
+pub fn stretch_refusal(words: &[u16], place: u16) -> u16 {
+    let (refusal, reading) = read(words);
+    if refusal != 0 {
+        return refusal;
+    }
+    // "place not below S"
+    if usize::from(place) >= reading.sector_count {
+        return 17;
+    }
+    0
+}
+
+/// The points of the sector at a place; "a refused stretch is empty".
+pub fn stretch(words: &[u16], place: u16) -> &[u16] {
+    if stretch_refusal(words, place) != 0 {
+        return &[];
+    }
+    let sector = read(words).1.sectors[usize::from(place)];
+    &words[sector.points_place..sector.points_place + sector.points_length]
+}

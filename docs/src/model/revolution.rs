@@ -1,0 +1,94 @@
+// Document 01, "A revolution and its profile", the sensor's side: the call of a revolution with refusals 1, 7, 8 and 6,
+// and the words of a profile in their order.
+
+use crate::plan;
+use crate::state::{Job, Mode, Outcome, State};
+
+/// Whether a bit of a mask is set.
+pub fn has_bit(mask: u16, bit: u16) -> bool {
+    mask >> bit & 1 == 1
+}
+
+/// A revolution: "Order ... 1, 7, 8, 6". The profile goes to the front of the buffer, the words behind it stay.
+pub fn revolution(state: &State, start_time: u16, distances: &[u16], echoes: &[u16], buffer: &mut [u16]) -> Outcome {
+    if !state.in_ranges() {
+        return Outcome::refused(1, state);
+    }
+    if state.mode != Mode::Measure {
+        return Outcome::refused(7, state);
+    }
+    let shots = plan::shots_per_revolution(state.step);
+    if distances.len() != shots || echoes.len() != shots {
+        return Outcome::refused(8, state);
+    }
+    // "The counter rises by one. With a job, number sent rises by one (modulo 65536 if endless) and a profile is
+    // written; a counted job ends at none left."
+    let mut next = *state;
+    next.counter = state.counter.wrapping_add(1);
+    let profile = match state.job {
+        Job::Absent => Vec::new(),
+        Job::Counted { left, mask, sent } => {
+            let left = left - 1;
+            let sent = sent + 1;
+            next.job = if left == 0 { Job::Absent } else { Job::Counted { left, mask, sent } };
+            profile_words(&next, mask, sent, start_time, distances, echoes)
+        }
+        Job::Endless { mask, sent } => {
+            let sent = sent.wrapping_add(1);
+            next.job = Job::Endless { mask, sent };
+            profile_words(&next, mask, sent, start_time, distances, echoes)
+        }
+    };
+    if buffer.len() < profile.len() {
+        return Outcome::refused(6, state);
+    }
+    buffer[..profile.len()].copy_from_slice(&profile);
+    Outcome { refusal: 0, count: profile.len(), state: next }
+}
+
+/// "Shot k (from 0) is fired at floor(1000 × k ÷ (running speed × N)) ms after the revolution's start time, sum modulo
+/// 65536."
+fn time_of_shot(state: &State, start_time: u16, shot: usize) -> u16 {
+    let shots_per_second = usize::from(state.running_speed) * plan::shots_per_revolution(state.step);
+    let after_start = 1000 * shot / shots_per_second;
+    ((usize::from(start_time) + after_start) % 65536) as u16
+}
+
+/// The words of a profile; the state is the one after the rise of the counter.
+fn profile_words(state: &State, mask: u16, sent: u16, start_time: u16, distances: &[u16], echoes: &[u16]) -> Vec<u16> {
+    let active = plan::active_sectors(&state.working_plan);
+    let shots = plan::walk_of_shots(&state.working_plan, state.step);
+    let mut words = vec![0x8301, mask, 0x0100 + active.len() as u16];
+    let mut give = |bit: u16, word: u16| {
+        if has_bit(mask, bit) {
+            words.push(word);
+        }
+    };
+    give(0, sent);
+    give(1, state.counter);
+    give(2, 0); // "layer (always 0)"
+    for (number, sector) in active.iter().enumerate() {
+        // the numbers of this sector's shots, in order
+        let own: Vec<usize> = (0..shots.len()).filter(|shot| shots[*shot].sector == number).collect();
+        let first = own[0];
+        let last = own[own.len() - 1];
+        // "Only function 3 gives points."
+        let points: &[usize] = if sector.function == 3 { &own } else { &[] };
+        give(3, number as u16);
+        give(4, state.step);
+        give(5, points.len() as u16);
+        give(6, time_of_shot(state, start_time, first));
+        give(7, shots[first].direction);
+        for &shot in points {
+            give(8, distances[shot]);
+            give(9, shots[shot].direction);
+            give(10, echoes[shot]);
+        }
+        give(11, time_of_shot(state, start_time, last));
+        give(12, shots[last].direction);
+    }
+    for word in state.senstat() {
+        give(13, word);
+    }
+    words
+}

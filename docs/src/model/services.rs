@@ -1,0 +1,242 @@
+// Document 01, "Services": the table of the 13 services, what each does and answers, and refusals 1 to 6 of a request.
+
+use crate::measure_checks;
+use crate::plan;
+use crate::plan::Sector;
+use crate::state::{self, Job, Mode, Outcome, State};
+
+pub const GET_STATUS: u16 = 0x0102;
+pub const GET_SIGNAL: u16 = 0x0104;
+pub const SET_SIGNAL: u16 = 0x0105;
+pub const SET_CONFIG: u16 = 0x0201;
+pub const GET_CONFIG: u16 = 0x0202;
+pub const SET_FUNCTION: u16 = 0x020A;
+pub const GET_FUNCTION: u16 = 0x020B;
+pub const GET_PROFILE: u16 = 0x0301;
+pub const CANCEL_PROFILE: u16 = 0x0302;
+pub const DO_RESET: u16 = 0x0401;
+pub const TRANS_IDLE: u16 = 0x0402;
+pub const TRANS_ROTATE: u16 = 0x0403;
+pub const TRANS_MEASURE: u16 = 0x0404;
+
+/// The one item of SET_CONFIG and GET_CONFIG.
+pub const CONFIG_ITEM: u16 = 0x0010;
+
+const NO_SUCH: u16 = 0xFFFF;
+
+pub struct Service {
+    pub name: &'static str,
+    pub code: u16,
+    pub words_in: usize,
+    pub modes: &'static [Mode],
+}
+
+const ALL: &[Mode] = &[Mode::Idle, Mode::Rotate, Mode::Measure];
+const IDLE: &[Mode] = &[Mode::Idle];
+const IDLE_ROTATE: &[Mode] = &[Mode::Idle, Mode::Rotate];
+const ROTATE_MEASURE: &[Mode] = &[Mode::Rotate, Mode::Measure];
+const MEASURE: &[Mode] = &[Mode::Measure];
+
+pub const TABLE: [Service; 13] = [
+    Service { name: "GET_STATUS", code: GET_STATUS, words_in: 1, modes: ALL },
+    Service { name: "GET_SIGNAL", code: GET_SIGNAL, words_in: 1, modes: ALL },
+    Service { name: "SET_SIGNAL", code: SET_SIGNAL, words_in: 2, modes: ALL },
+    Service { name: "SET_CONFIG", code: SET_CONFIG, words_in: 5, modes: IDLE },
+    Service { name: "GET_CONFIG", code: GET_CONFIG, words_in: 2, modes: ALL },
+    Service { name: "SET_FUNCTION", code: SET_FUNCTION, words_in: 5, modes: IDLE_ROTATE },
+    Service { name: "GET_FUNCTION", code: GET_FUNCTION, words_in: 2, modes: ALL },
+    Service { name: "GET_PROFILE", code: GET_PROFILE, words_in: 3, modes: MEASURE },
+    Service { name: "CANCEL_PROFILE", code: CANCEL_PROFILE, words_in: 1, modes: MEASURE },
+    Service { name: "DO_RESET", code: DO_RESET, words_in: 2, modes: ALL },
+    Service { name: "TRANS_IDLE", code: TRANS_IDLE, words_in: 1, modes: ALL },
+    Service { name: "TRANS_ROTATE", code: TRANS_ROTATE, words_in: 2, modes: ALL },
+    Service { name: "TRANS_MEASURE", code: TRANS_MEASURE, words_in: 1, modes: ROTATE_MEASURE },
+];
+
+pub fn service_of(code: u16) -> Option<&'static Service> {
+    TABLE.iter().find(|service| service.code == code)
+}
+
+/// A request: "Request order 1 to 6". The answer goes to the front of the buffer, the words behind it stay.
+pub fn request(state: &State, words: &[u16], buffer: &mut [u16]) -> Outcome {
+    if !state.in_ranges() {
+        return Outcome::refused(1, state);
+    }
+    if words.is_empty() {
+        return Outcome::refused(2, state);
+    }
+    let Some(service) = service_of(words[0]) else {
+        return Outcome::refused(3, state);
+    };
+    if words.len() != service.words_in {
+        return Outcome::refused(4, state);
+    }
+    if !service.modes.contains(&state.mode) {
+        return Outcome::refused(5, state);
+    }
+    let mut next = *state;
+    let answer = serve(&mut next, words);
+    if buffer.len() < answer.len() {
+        return Outcome::refused(6, state);
+    }
+    buffer[..answer.len()].copy_from_slice(&answer);
+    Outcome { refusal: 0, count: answer.len(), state: next }
+}
+
+/// Changes the state and gives the whole answer, its code included: "A response code is the request code plus 8000h."
+/// "What a service isn't said to change stays."
+fn serve(state: &mut State, words: &[u16]) -> Vec<u16> {
+    let mut answer = vec![words[0] + 0x8000];
+    match words[0] {
+        GET_STATUS => answer.extend(state.senstat()),
+        GET_SIGNAL => answer.push(u16::from(state.port)),
+        SET_SIGNAL => {
+            set_signal(state, words[1]);
+            answer.push(u16::from(state.port));
+        }
+        SET_CONFIG => answer.push(set_config(state, words[1], words[2], words[3], words[4])),
+        GET_CONFIG => answer.extend(get_config(state, words[1])),
+        SET_FUNCTION => answer.extend(set_function(state, words[1], words[2], words[3], words[4])),
+        GET_FUNCTION => answer.extend(get_function(state, words[1])),
+        GET_PROFILE => {
+            // "If the mask is then 0, the answer is 8301h alone and the job stays. Otherwise ... no word is written"
+            if start_job(state, words[1], words[2]) {
+                answer.clear();
+            }
+        }
+        CANCEL_PROFILE => {
+            state.job = Job::Absent;
+            answer.extend(state.senstat());
+        }
+        DO_RESET => {
+            reset(state, words[1]);
+            answer.push(words[1]);
+        }
+        TRANS_IDLE => {
+            go_idle(state);
+            answer.extend(state.senstat());
+        }
+        TRANS_ROTATE => {
+            go_rotate(state, words[1]);
+            answer.extend(state.senstat());
+        }
+        TRANS_MEASURE => {
+            let error = go_measure(state);
+            answer.extend(state.senstat());
+            answer.push(error);
+        }
+        _ => unreachable!("the code is in the table"),
+    }
+    answer
+}
+
+/// "bits 2 and 3 keep their value, the other six come from the low byte; the high byte is ignored"
+fn set_signal(state: &mut State, word: u16) {
+    let low_byte = (word & 0x00FF) as u8;
+    let kept = 0b0000_1100;
+    state.port = (state.port & kept) | (low_byte & !kept);
+}
+
+/// "Another item, or any value out of range, gives FFFFh and stores none of the three."
+fn set_config(state: &mut State, item: u16, id: u16, speed: u16, step: u16) -> u16 {
+    let all_fit =
+        item == CONFIG_ITEM && state::id_in_range(id) && state::speed_in_range(speed) && plan::is_angle_step(step);
+    if !all_fit {
+        return NO_SUCH;
+    }
+    state.id = id;
+    state.configured_speed = speed;
+    state.step = step;
+    item
+}
+
+/// "GET_CONFIG with another item than 0010h: FFFFh."
+fn get_config(state: &State, item: u16) -> Vec<u16> {
+    if item != CONFIG_ITEM {
+        return vec![NO_SUCH];
+    }
+    vec![item, state.id, state.configured_speed, state.step]
+}
+
+/// "sector above 7 becomes 7; function 2 or above 4 becomes 0; stop becomes its remainder by 5760. Flash = 1 then
+/// copies the whole working plan, this change included, to the stored one."
+fn set_function(state: &mut State, sector: u16, function: u16, stop: u16, flash: u16) -> [u16; 3] {
+    let sector = if sector > 7 { 7 } else { sector };
+    let function = if function == 2 || function > 4 { 0 } else { function };
+    let stop = stop % plan::CIRCLE;
+    state.working_plan[usize::from(sector)] = Sector { function, stop };
+    if flash == 1 {
+        state.stored_plan = state.working_plan;
+    }
+    [sector, function, stop]
+}
+
+/// "GET_FUNCTION with sector above 7: three times FFFFh."
+fn get_function(state: &State, sector: u16) -> [u16; 3] {
+    if sector > 7 {
+        return [NO_SUCH; 3];
+    }
+    let found = state.working_plan[usize::from(sector)];
+    [sector, found.function, found.stop]
+}
+
+/// GET_PROFILE: whether there is a new job. "bits 14 and 15 are cleared. If the mask is then 0, ... the job stays.
+/// Otherwise a new job, number sent 0, replaces the old one ...; number 0 is endless."
+fn start_job(state: &mut State, number: u16, mask: u16) -> bool {
+    let mask = mask & 0x3FFF;
+    if mask == 0 {
+        return false;
+    }
+    state.job = if number == 0 { Job::Endless { mask, sent: 0 } } else { Job::Counted { left: number, mask, sent: 0 } };
+    true
+}
+
+fn reset(state: &mut State, level: u16) {
+    match level {
+        // "0 and 1 give IDLE, running speed 0, working plan from the stored one, port 0, counter 0, no job."
+        0 | 1 => {
+            state.mode = Mode::Idle;
+            state.running_speed = 0;
+            state.working_plan = state.stored_plan;
+            state.port = 0;
+            state.counter = 0;
+            state.job = Job::Absent;
+        }
+        // "2 turns MEASURE into ROTATE with no job, and does nothing in other modes."
+        2 => {
+            if state.mode == Mode::Measure {
+                state.mode = Mode::Rotate;
+                state.job = Job::Absent;
+            }
+        }
+        // "Other levels change nothing."
+        _ => {}
+    }
+}
+
+/// "TRANS_IDLE, which gives IDLE at running speed 0"; "any leaving of MEASURE, ends the job"
+fn go_idle(state: &mut State) {
+    state.mode = Mode::Idle;
+    state.running_speed = 0;
+    state.job = Job::Absent;
+}
+
+/// "0 takes the configured speed, 5 to 20 that speed, giving ROTATE; others act as TRANS_IDLE"
+fn go_rotate(state: &mut State, speed: u16) {
+    if speed != 0 && !state::speed_in_range(speed) {
+        go_idle(state);
+        return;
+    }
+    state.mode = Mode::Rotate;
+    state.running_speed = if speed == 0 { state.configured_speed } else { speed };
+    state.job = Job::Absent;
+}
+
+/// "Error 0 gives MEASURE and leaves a running job; others stay in ROTATE."
+fn go_measure(state: &mut State) -> u16 {
+    let error = measure_checks::measure_error(&state.working_plan, state.step, state.running_speed);
+    if error == 0 {
+        state.mode = Mode::Measure;
+    }
+    error
+}

@@ -1,0 +1,420 @@
+// Holds the model to every bench figure of document 01, to the program's dialogue printed there, and to what document 01
+// says of the calls together: lengths, reading back, plans that run alike. Run: rustc --edition 2021 --test main.rs.
+
+use crate::format;
+use crate::fresh_cases;
+use crate::measure_checks::measure_error;
+use crate::plan::{self, Plan};
+use crate::program;
+use crate::random::Random;
+use crate::random_plans;
+use crate::random_profiles::profile_of_state;
+use crate::random_states;
+use crate::reader::{self, Reading};
+use crate::revolution::{has_bit, revolution};
+use crate::services::{self, *};
+use crate::state::{Job, Mode, State};
+use crate::stored_cases;
+use crate::stored_samples::plan_of;
+use crate::talk;
+use crate::trial;
+
+/// A served request: its answer and the next state.
+fn served(state: &State, words: &[u16]) -> (Vec<u16>, State) {
+    let mut room = [0xBBBB; 8];
+    let outcome = services::request(state, words, &mut room);
+    assert_eq!(outcome.refusal, 0);
+    assert!(room[outcome.count..].iter().all(|word| *word == 0xBBBB));
+    (room[..outcome.count].to_vec(), outcome.state)
+}
+
+fn refusal(state: &State, words: &[u16], room: usize) -> u16 {
+    let mut buffer = vec![0xBBBB; room];
+    let outcome = services::request(state, words, &mut buffer);
+    assert_eq!((outcome.count, outcome.state), (0, *state));
+    assert!(buffer.iter().all(|word| *word == 0xBBBB));
+    outcome.refusal
+}
+
+fn rotating(step: u16, running_speed: u16, working_plan: Plan) -> State {
+    State { mode: Mode::Rotate, step, running_speed, working_plan, ..State::fresh() }
+}
+
+fn measuring(step: u16, running_speed: u16, working_plan: Plan, mask: u16) -> State {
+    State { mode: Mode::Measure, job: Job::Endless { mask, sent: 0 }, ..rotating(step, running_speed, working_plan) }
+}
+
+fn profile(state: &State, start_time: u16) -> Vec<u16> {
+    let shots = plan::shots_per_revolution(state.step);
+    let distances: Vec<u16> = (0..shots as u16).collect();
+    let echoes: Vec<u16> = (0..shots as u16).map(|shot| 0x8000 + shot).collect();
+    profile_of_state(state, start_time, &distances, &echoes)
+}
+
+fn error_of(state: &State) -> u16 {
+    let (answer, next) = served(state, &[TRANS_MEASURE]);
+    let error = answer[3];
+    let mode = if error == 0 { Mode::Measure } else { Mode::Rotate };
+    assert_eq!(next, State { mode, ..*state });
+    error
+}
+
+#[test]
+fn there_are_23_steps() {
+    let steps = [1, 2, 3, 4, 5, 6, 8, 9, 10, 12, 15, 16, 18, 20, 24, 30, 32, 36, 40, 45, 48, 60, 64];
+    assert_eq!(random_plans::all_steps(), steps);
+    assert!((65..=u16::MAX).all(|step| !plan::is_angle_step(step)));
+}
+
+#[test]
+fn fresh_state_is_in_its_ranges() {
+    let fresh = State::fresh();
+    assert!(fresh.in_ranges());
+    let mut words = vec![1, 10, 8];
+    for _ in 0..2 {
+        words.extend([3, 5752]);
+        words.extend([0; 14]);
+    }
+    words.extend([1, 0, 0, 0, 0, 0, 0, 0]);
+    assert_eq!(format::state_words(&fresh), words);
+}
+
+#[test]
+fn bench_angle_steps() {
+    let fresh = State::fresh();
+    for step in [7, 72] {
+        let (answer, next) = served(&fresh, &[SET_CONFIG, 0x0010, 9, 19, step]);
+        assert_eq!(answer, [0x8201, 0xFFFF]);
+        assert_eq!(next, fresh);
+        assert_eq!(plan::normal_plan(step, &fresh.working_plan), (9, plan::PLAN_OF_ZEROS));
+    }
+    for step in [64, 1] {
+        let (answer, next) = served(&fresh, &[SET_CONFIG, 0x0010, 9, 19, step]);
+        assert_eq!(answer, [0x8201, 0x0010]);
+        assert_eq!(next, State { id: 9, configured_speed: 19, step, ..fresh });
+    }
+    for speed in 5..=20 {
+        assert_eq!(error_of(&rotating(1, speed, fresh.working_plan)), 1);
+        assert_eq!(error_of(&rotating(1, speed, plan_of(&[(1, 0)]))), 1);
+    }
+}
+
+#[test]
+fn bench_stops() {
+    for (stop, becomes) in [(5760, 0), (5761, 1), (65535, 2175)] {
+        let (answer, next) = served(&State::fresh(), &[SET_FUNCTION, 0, 3, stop, 0]);
+        assert_eq!(answer, [0x820A, 0, 3, becomes]);
+        assert_eq!(next.working_plan, plan_of(&[(3, becomes)]));
+        assert_eq!(next.stored_plan, State::fresh().stored_plan);
+    }
+}
+
+#[test]
+fn bench_signal() {
+    let (answer, next) = served(&State::fresh(), &[SET_SIGNAL, 0xFFFF]);
+    assert_eq!(answer, [0x8105, 0x00F3]);
+    assert_eq!(next.port, 0xF3);
+    let (answer, _) = served(&State { port: 0x0C, ..State::fresh() }, &[SET_SIGNAL, 0xFF00]);
+    assert_eq!(answer, [0x8105, 0x000C]);
+}
+
+#[test]
+fn bench_fresh_plan() {
+    let fresh = State::fresh();
+    assert_eq!(error_of(&rotating(8, 10, fresh.working_plan)), 0);
+    let shots = plan::walk_of_shots(&fresh.working_plan, 8);
+    assert_eq!((shots.len(), shots[0].direction, shots[719].direction), (720, 0, 5752));
+    let shots = plan::walk_of_shots(&plan_of(&[(3, 0)]), 8);
+    assert_eq!((shots.len(), shots[0].direction, shots[719].direction), (720, 8, 0));
+}
+
+#[test]
+fn bench_mask_0120() {
+    let words = profile(&measuring(8, 10, State::fresh().working_plan, 0x0120), 0);
+    assert_eq!(words.len(), 724);
+    assert_eq!(words[..5], [0x8301, 0x0120, 0x0101, 720, 0]);
+    assert_eq!(words[723], 719);
+}
+
+#[test]
+fn bench_two_sectors() {
+    let plan = plan_of(&[(1, 1436), (3, 3360)]);
+    assert_eq!(error_of(&rotating(4, 10, plan)), 0);
+    let words = profile(&measuring(4, 10, plan, 0x18FF), 0);
+    assert_eq!(words[..6], [0x8301, 0x18FF, 0x0102, 1, 1, 0]);
+    // sector 0: no points, from 3364 to 1436
+    assert_eq!(words[6..13], [0, 4, 0, 0, 3364, 66, 1436]);
+    // sector 1: 481 points from 1440, its times 66 and 99 ms
+    assert_eq!(words[13..], [1, 4, 481, 66, 1440, 99, 3360]);
+    assert_eq!(error_of(&rotating(4, 11, plan)), 1);
+    let points = profile(&measuring(4, 10, plan, 0x0720), 0);
+    assert_eq!(points[3..8], [0, 481, 959, 1440, 0x8000 + 959]);
+    assert_eq!(points[points.len() - 3..], [1439, 3360, 0x8000 + 1439]);
+}
+
+#[test]
+fn bench_errors() {
+    assert_eq!(error_of(&rotating(2, 5, plan_of(&[(3, 5758)]))), 2);
+    assert_eq!(error_of(&rotating(10, 10, plan_of(&[(3, 5752)]))), 4);
+}
+
+#[test]
+fn bench_normal_plans() {
+    let joined = plan_of(&[(3, 2000), (1, 3000)]);
+    assert_eq!(plan::normal_plan(8, &plan_of(&[(3, 1000), (3, 2000), (1, 3000)])), (0, joined));
+    let stays = plan_of(&[(1, 1000), (3, 2000), (1, 3000)]);
+    assert_eq!(plan::normal_plan(8, &stays), (0, stays));
+}
+
+#[test]
+fn bench_dialogue() {
+    let input = [1, 1, 2, 1, 4, 4, 2, 4, 3, 0, 0, 1, 4, 4, 0];
+    let printed = "\
+nr no n words
+1 0 3 8102 0000 0001
+2 5 0
+3 0 3 8403 0000 0002
+4 0 4 8404 0000 0003 0000
+5 2 0
+end
+";
+    assert_eq!(String::from_utf8_lossy(&program::run(&input)), printed);
+    assert_eq!(program::run(&[]), b"nr no n words\nend\n");
+    for cut in [&[1][..], &[1, 1], &[5, 2, 1]] {
+        assert_eq!(program::run(cut), b"nr no n words\nend short\n");
+    }
+    assert_eq!(program::run(&[0, 2, 1]), b"nr no n words\n1 2 0\nend short\n");
+}
+
+#[test]
+fn easy_slips() {
+    let fresh = State::fresh();
+    // the step is not stored where the speed is out of range
+    assert_eq!(served(&fresh, &[SET_CONFIG, 0x0010, 1, 21, 16]).1, fresh);
+    // a sector is set whatever the step
+    assert_eq!(served(&fresh, &[SET_FUNCTION, 1, 3, 7, 0]).0, [0x820A, 1, 3, 7]);
+    // points go together
+    let words = profile(&measuring(64, 10, plan_of(&[(1, 0), (3, 128)]), 0x0320), 0);
+    assert_eq!(words, [0x8301, 0x0320, 0x0102, 0, 2, 88, 64, 89, 128]);
+}
+
+#[test]
+fn refusals_of_a_request_in_order() {
+    let fresh = State::fresh();
+    let bad = State { id: 0, ..fresh };
+    assert_eq!(refusal(&bad, &[], 0), 1);
+    assert_eq!(refusal(&fresh, &[], 0), 2);
+    assert_eq!(refusal(&fresh, &[0x0103, 0], 0), 3);
+    assert_eq!(refusal(&fresh, &[GET_PROFILE], 0), 4);
+    assert_eq!(refusal(&fresh, &[GET_PROFILE, 1, 0], 0), 5);
+    assert_eq!(refusal(&fresh, &[GET_STATUS], 2), 6);
+    // a new job writes no word, so it needs no room
+    let state = measuring(8, 10, fresh.working_plan, 1);
+    assert_eq!(
+        services::request(&state, &[GET_PROFILE, 3, 0xC001], &mut []).state.job,
+        Job::Counted { left: 3, mask: 1, sent: 0 }
+    );
+    assert_eq!(refusal(&state, &[GET_PROFILE, 3, 0xC000], 0), 6);
+    assert_eq!(served(&state, &[GET_PROFILE, 3, 0xC000]), (vec![0x8301], state));
+}
+
+#[test]
+fn refusals_of_a_revolution_in_order() {
+    let state = measuring(64, 10, plan_of(&[(1, 0)]), 1);
+    let refused = |state: &State, shots: usize, room: usize| {
+        let list = vec![0; shots];
+        let outcome = revolution(state, 0, &list, &list, &mut vec![0; room]);
+        if outcome.refusal != 0 {
+            assert_eq!((outcome.count, outcome.state), (0, *state));
+        }
+        outcome.refusal
+    };
+    let rotate = rotating(64, 10, plan_of(&[(1, 0)]));
+    assert_eq!(refused(&State { id: 0, ..rotate }, 1, 0), 1);
+    assert_eq!(refused(&rotate, 1, 0), 7);
+    assert_eq!(refused(&state, 1, 0), 8);
+    assert_eq!(refused(&state, 90, 3), 6);
+    assert_eq!(refused(&state, 90, 4), 0);
+}
+
+#[test]
+fn jobs_count_and_wrap() {
+    let list = vec![0; 90];
+    let mut state = measuring(64, 10, plan_of(&[(1, 0)]), 0x0003);
+    state.counter = 65535;
+    let turn = |state: &State| {
+        let mut room = [0; 5];
+        let outcome = revolution(state, 0, &list, &list, &mut room);
+        (outcome.state, room)
+    };
+    for (job, next, sent) in [
+        (Job::Endless { mask: 3, sent: 65535 }, Job::Endless { mask: 3, sent: 0 }, 0),
+        (Job::Counted { left: 2, mask: 3, sent: 0 }, Job::Counted { left: 1, mask: 3, sent: 1 }, 1),
+        (Job::Counted { left: 1, mask: 3, sent: 65534 }, Job::Absent, 65535),
+    ] {
+        state.job = job;
+        assert_eq!(turn(&state), (State { counter: 0, job: next, ..state }, [0x8301, 3, 0x0101, sent, 0]));
+    }
+    state.job = Job::Absent;
+    assert_eq!(turn(&state), (State { counter: 0, ..state }, [0; 5]));
+}
+
+/// "Length in words: 3 + bits set in 0 to 2 + S × bits set in 3 to 7, 11 and 12 + points × bits set in 8 to 10 + 2 if
+/// bit 13. At most 6544."
+#[test]
+fn length_of_a_profile() {
+    let mut random = Random::new(7);
+    let mut longest = 0;
+    for round in 0..3000 {
+        let state = if round % 50 == 0 {
+            random_states::largest_state(&mut random)
+        } else {
+            random_states::state_in_ranges(&mut random, Mode::Measure)
+        };
+        let (Job::Counted { mask, .. } | Job::Endless { mask, .. }) = state.job else { continue };
+        let bits = |wanted: u16| (mask & wanted).count_ones() as usize;
+        let active = plan::active_sectors(&state.working_plan);
+        let shots = plan::walk_of_shots(&state.working_plan, state.step);
+        assert_eq!(shots.len(), plan::shots_per_revolution(state.step));
+        let points = shots.iter().filter(|shot| active[shot.sector].function == 3).count();
+        let length = 3 + bits(0x0007) + active.len() * bits(0x18F8) + points * bits(0x0700) + 2 * bits(0x2000);
+        assert_eq!(profile(&state, random.word()).len(), length);
+        longest = longest.max(length);
+    }
+    assert_eq!(longest, 6544);
+}
+
+/// "Put together again means: the layout's order above, filled from the reading's fields and from each sector's stretch
+/// of points".
+fn put_together(words: &[u16], reading: &Reading) -> Vec<u16> {
+    let mut again = vec![0x8301];
+    again.extend(reading.mask);
+    again.push(0x0100 + reading.sector_count as u16);
+    again.extend([reading.sent, reading.counter, reading.layer].into_iter().flatten());
+    for place in 0..reading.sector_count {
+        let sector = reading.sectors[place];
+        let before = [sector.number, sector.step, sector.points, sector.first_time, sector.first_direction];
+        again.extend(before.into_iter().flatten());
+        assert_eq!(reader::stretch_refusal(words, place as u16), 0);
+        again.extend(reader::stretch(words, place as u16));
+        again.extend([sector.last_time, sector.last_direction].into_iter().flatten());
+    }
+    again.extend(reading.senstat.into_iter().flatten());
+    again
+}
+
+#[test]
+fn a_reading_gives_the_profile_back() {
+    let mut random = Random::new(8);
+    let mut read = 0;
+    for _ in 0..3000 {
+        let state = random_states::state_in_ranges(&mut random, Mode::Measure);
+        let words = profile(&state, random.word());
+        let (refusal, reading) = reader::read(&words);
+        match state.job {
+            Job::Absent => assert_eq!((refusal, words.len()), (12, 0)),
+            Job::Counted { mask, .. } | Job::Endless { mask, .. } => {
+                let points_without_number = mask & 0x0700 != 0 && !has_bit(mask, 5);
+                assert_eq!(refusal, if points_without_number { 14 } else { 0 });
+            }
+        }
+        if refusal == 0 {
+            assert_eq!(put_together(&words, &reading), words);
+            assert_eq!(reader::read(&words[..words.len() - 1]).0, if words.len() == 3 { 13 } else { 15 });
+            assert_eq!(reader::stretch_refusal(&words, reading.sector_count as u16), 17);
+            let mut longer = words.clone();
+            longer.push(0);
+            assert_eq!(reader::read(&longer), (16, Reading::default()));
+            read += 1;
+        }
+    }
+    assert!(read > 1000);
+}
+
+/// A normal plan runs like the plan it came from, and no two neighbours of it have the same function.
+#[test]
+fn a_normal_plan_runs_alike() {
+    let mut random = Random::new(9);
+    for _ in 0..3000 {
+        let step = random_plans::any_step(&mut random);
+        let given = random_plans::valid_plan(&mut random, step);
+        let (refusal, normal) = plan::normal_plan(step, &given);
+        assert_eq!(refusal, 0);
+        let run = |plan: &Plan| -> Vec<(u16, u16)> {
+            plan::walk_of_shots(plan, step).iter().map(|shot| (shot.direction, plan[shot.sector].function)).collect()
+        };
+        assert_eq!(run(&given), run(&normal));
+        let active = plan::active_sectors(&normal);
+        assert!(active.windows(2).all(|pair| pair[0].function != pair[1].function));
+        assert!(normal[active.len()..].iter().all(|sector| *sector == plan::UNUSED));
+        assert_eq!(plan::normal_plan(step, &normal), (0, normal));
+    }
+}
+
+/// Served requests and revolutions of states in their ranges lead to states in their ranges.
+#[test]
+fn ranges_are_kept() {
+    let mut random = Random::new(10);
+    let mut served = 0;
+    for _ in 0..20000 {
+        let case = fresh_cases::case(&mut random);
+        let (refusal, words) = trial::answer(&trial::call_of_case(&case));
+        let kind = case.first().copied().unwrap_or(0);
+        if refusal == 0 && (kind == trial::REQUEST || kind == trial::REVOLUTION) {
+            assert!(format::CaseWords::new(&words[1..]).state().in_ranges());
+            served += 1;
+        }
+    }
+    assert!(served > 5000);
+}
+
+#[test]
+fn settings_for_measure_pass() {
+    let mut random = Random::new(11);
+    for _ in 0..2000 {
+        let (step, speed, plan) = random_plans::measure_setting(&mut random);
+        assert_eq!(measure_error(&plan, step, speed), 0);
+        let mode = random_states::any_mode(&mut random);
+        assert!(random_states::state_in_ranges(&mut random, mode).in_ranges());
+    }
+}
+
+#[test]
+fn cases_and_lines() {
+    assert_eq!(format::cases_of_input(&[0, 1, 0, 6, 0, 0, 0x20, 1, 0, 6, 0, 2, 0, 6, 0]), [vec![6], vec![], vec![6]]);
+    let mut line = Vec::new();
+    format::push_line(&mut line, 12, 5, &[0xABCD, 0x0001]);
+    format::push_line(&mut line, 13, 17, &[]);
+    assert_eq!(line, b"12 5 2 ABCD 0001\n13 17 0\n");
+    assert_eq!(format::ListGiven { length: 8195, first: 65534, rise: 1 }.words(), [65534, 65535, 0]);
+    // 4 fields, the number of sectors, 8 × 9 words of sectors, 2 words of SENSTAT
+    assert_eq!(format::reading_words(&Reading::default()), [0; 79]);
+}
+
+#[test]
+fn stored_cases_are_small_enough() {
+    let input = stored_cases::input();
+    let mut lines = Vec::new();
+    for (place, case) in format::cases_of_input(&input).iter().enumerate() {
+        let (refusal, words) = trial::answer(&trial::call_of_case(case));
+        format::push_line(&mut lines, place + 1, refusal, &words);
+    }
+    let size = input.len() + lines.len();
+    assert!((600_000..900_000).contains(&size), "{size} bytes");
+}
+
+#[test]
+fn a_talk_is_cut_for_some_seeds_only() {
+    let mut cut = 0;
+    for seed in 0..200 {
+        let printed = program::run(&talk::input(seed, 20));
+        let lines = printed.iter().filter(|byte| **byte == b'\n').count();
+        if printed.ends_with(b"end short\n") {
+            cut += 1;
+            assert_eq!(lines, 21);
+        } else {
+            assert_eq!(lines, 22);
+        }
+    }
+    assert!((60..140).contains(&cut), "{cut}");
+}
