@@ -1,12 +1,11 @@
 -- Document 01, the program: "Each record's line has running number from 1, refusal (0 for none), word count, both decimal, then the
 -- words as four capital hex digits, with single spaces between."
-use mathlib.Core.Path.{_≡_}
 use mathlib.Core.List.{List, [], _∷_, _++_}
 use Prim.Native.Nat.{ℕ, zero, suc, _+_, _/_, _%_}
 use lib.Dec.{leb, ltb, eqb}
 use lib.ListN.{length, getD}
 use Rattle.words.specs.Choice.{if_then_else_}
-use Rattle.words.specs.Buffers.{Wrote, inTurn}
+use Rattle.words.specs.Buffers.{inTurn}
 
 -- the character of a digit, 0 to 9 and A to F
 abbrev pub glyph : ℕ → ℕ

@@ -1,11 +1,10 @@
 -- Document 01, 'A revolution and its profile': the order of a profile's words, once for the writer and the reader.
 use mathlib.Core.Path.{_≡_}
 use mathlib.Core.Bool.{not}
-use mathlib.Core.List.{List, [], _∷_, _++_}
+use mathlib.Core.List.{List, _∷_, _++_}
 use Prim.Native.Nat.{ℕ, _+_, _*_, _≤_}
 use lib.Dec.{T}
 use lib.ListN.{length}
-use Rattle.words.specs.declared.Word.{Word}
 use Rattle.words.specs.Bits.{bit}
 use Rattle.words.specs.Lists.{Each}
 use Rattle.words.specs.Words.{wordsOf, numberOf, Shaped, laidAll}

@@ -1,6 +1,6 @@
 -- Document 01, 'A revolution and its profile': the length of a profile. The theorems stand in proofs/LayoutLengths.antt and proofs/GreatestLength.antt.
 use mathlib.Core.Path.{_≡_}
-use mathlib.Core.List.{List, [], _∷_}
+use mathlib.Core.List.{[], _∷_}
 use Prim.Native.Nat.{ℕ, _+_, _*_, _≤_}
 use lib.ListN.{length}
 use Rattle.words.specs.Choice.{if_then_else_}

@@ -1,6 +1,6 @@
 -- Document 01, 'State and ranges', GET_PROFILE and 'Numbers for no' 14: the mask of a profile.
 use mathlib.Core.Bool.{Bool, not, _&&_}
-use mathlib.Core.List.{List, [], _∷_}
+use mathlib.Core.List.{[], _∷_}
 use Prim.Native.Nat.{ℕ, _%_}
 use lib.Dec.{eqb}
 use Rattle.words.specs.Bits.{bit}

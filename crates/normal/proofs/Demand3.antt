@@ -1,8 +1,8 @@
 -- Demand 3, said of plans; and when the call answers 0.
 use mathlib.Core.Path.{_≡_, refl, sym, ap, _∙_}
 use mathlib.Core.Bool.{Bool, true, false, not, _&&_}
-use mathlib.Core.List.{List, [], _∷_, _++_}
-use Prim.Native.Nat.{ℕ, zero, suc, _+_, _-_, _≤_}
+use mathlib.Core.List.{List, _++_}
+use Prim.Native.Nat.{ℕ, zero, suc, _+_, _-_}
 use native.Mathlib.Omega.{arith}
 use lib.Dec.{T, eqb}
 use lib.ListN.{length, replicate, length-append, length-replicate}
@@ -13,10 +13,9 @@ use Rattle.words.proofs.Tests.{and-l, and-r, is-true}
 use Rattle.plan.specs.declared.Sector.{Sector}
 use Rattle.plan.specs.declared.Plan.{Plan}
 use Rattle.plan.specs.Sectors.{isStep, unused, filled, active, activeOf}
-use Rattle.plan.specs.Validity.{isFunction, sectorOk, increases, multiples, Valid, ValidPlan}
-use Rattle.plan.specs.Shots.{runOf}
+use Rattle.plan.specs.Validity.{isFunction, sectorOk, increases, multiples, ValidPlan}
 use Rattle.normal.specs.NormalForm.{normal, normalPlan, planRefusal}
-use Rattle.normal.specs.Demands.{NormalStands, Demand3, AnswersZero}
+use Rattle.normal.specs.Demands.{Demand3, AnswersZero}
 use Rattle.plan.proofs.ArcSums.{active-length}
 use Rattle.plan.proofs.Grids.{Divides, divides}
 use Rattle.plan.proofs.FineSectors.{Fine, done, more, fine-of}

@@ -1,18 +1,15 @@
 -- The refusals of the normal plan call, as they are tabled, and the plan of zeros beside them.
-use mathlib.Core.Path.{_≡_, refl, _∙_, ap}
+use mathlib.Core.Path.{_≡_, refl}
 use mathlib.Core.Bool.{Bool, true, false, not, _&&_, _||_}
 use mathlib.Core.List.{List, [], _∷_}
-use Prim.Native.Nat.{ℕ}
-use lib.Dec.{eqb}
 use borrow.Author.Tests.{ne-eqb}
 use Rattle.words.specs.Choice.{if_then_else_}
 use Rattle.words.specs.Lists.{some, every, firstOf}
 use Rattle.plan.specs.declared.Sector.{Sector}
-use Rattle.plan.specs.declared.Plan.{Plan}
-use Rattle.plan.specs.Sectors.{isStep, stopOf, filled, activeOf}
-use Rattle.plan.specs.Validity.{isFunction, onCircle, sectorOk, increases, multiples}
-use Rattle.normal.specs.NormalForm.{normalPlan, planRefusal, normalisedOf}
-use Rattle.normal.specs.Demands.{numbersForNo, RefusalsExactly, RefusalsGiveZeros}
+use Rattle.plan.specs.Sectors.{isStep, stopOf, activeOf}
+use Rattle.plan.specs.Validity.{isFunction, onCircle, increases, multiples}
+use Rattle.normal.specs.NormalForm.{planRefusal, normalisedOf}
+use Rattle.normal.specs.Demands.{RefusalsExactly, RefusalsGiveZeros}
 
 -- every one passes two tests where every one passes each
 every-both : {A : Type 0} (p q : A → Bool) (l : List A) → every (λ x. p x && q x) l ≡ every p l && every q l

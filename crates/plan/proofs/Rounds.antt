@@ -1,7 +1,7 @@
 -- One revolution of valid sectors in closed form: N shots, the direction of each, and the function towards it.
 use mathlib.Core.Path.{_≡_, refl, sym, ap, _∙_}
 use mathlib.Core.Bool.{Bool, true, false}
-use mathlib.Core.List.{List, [], _∷_, _++_, map, map-append}
+use mathlib.Core.List.{List, _∷_, _++_, map, map-append}
 use Prim.Native.Nat.{ℕ, zero, suc, _+_, _-_, _*_, _/_, _%_, _≤_, _<_}
 use native.Mathlib.Nat.{add-mul, suc-mul, one-mul, mul-le-mul-right}
 use native.Mathlib.Omega.{arith}
@@ -9,16 +9,14 @@ use lib.Dec.{leb}
 use lib.ListN.{length, getD, List·getD-map}
 use borrow.Author.Tests.{le-leb, lt-leb, leb-false}
 use Rattle.words.specs.Choice.{if_then_else_}
-use Rattle.words.specs.Lists.{Each, none, this, some, total}
+use Rattle.words.specs.Lists.{Each, none}
 use Rattle.words.proofs.Each.{each-append, each-from, each-at, each-map}
-use Rattle.units.specs.Directions.{stepAfter, shotsTo, revolutionShots}
+use Rattle.units.specs.Directions.{stepAfter, revolutionShots}
 use Rattle.plan.specs.declared.Sector.{Sector}
-use Rattle.plan.specs.declared.Plan.{Plan}
-use Rattle.plan.specs.declared.Arc.{Arc}
 use Rattle.plan.specs.Sectors.{unused, stopOf, activeOf}
-use Rattle.plan.specs.Validity.{Valid, ValidPlan}
-use Rattle.plan.specs.Shots.{Shot, lastStop, shotsOf, arcsFrom, arcs, noArc, shots, run, runOf}
-use Rattle.plan.specs.Demands.{noShot, towards, functionOf, directionOf, endOf, RunsRound, Revolution}
+use Rattle.plan.specs.Validity.{Valid}
+use Rattle.plan.specs.Shots.{Shot, lastStop, shotsOf, arcsFrom, arcs, noArc, shots, run}
+use Rattle.plan.specs.Demands.{noShot, towards, functionOf, directionOf, endOf, Revolution}
 use Rattle.plan.proofs.Grids.{Divides, divides, Grid, on, on-is, on-suc, zero-grid, ends, span, span-around}
 use Rattle.plan.proofs.FineSectors.{Fine, done, more, fine-of, last-above, last-grid}
 use Rattle.plan.proofs.Runs.{swept, runFrom, run-is, shots-append, shots-length, run-more, run-length}

@@ -16,9 +16,9 @@ use Rattle.plan.specs.declared.Sector.{Sector}
 use Rattle.plan.specs.declared.Plan.{Plan}
 use Rattle.plan.specs.declared.Arc.{Arc}
 use Rattle.plan.specs.Sectors.{stopOf, activeOf}
-use Rattle.plan.specs.Shots.{Shot, lastStop, shotsOf, arcOf, arcsFrom, arcs, noArc, shots, sweep, sweeps, run, runOf, shotsWith}
+use Rattle.plan.specs.Shots.{Shot, lastStop, shotsOf, arcOf, arcsFrom, arcs, noArc, shots, sweep, sweeps, runOf, shotsWith}
 use Rattle.plan.specs.Checks.{isLit, litShots}
-use Rattle.plan.specs.Demands.{noShot, ArcIn, Tiles, Tiling, Counts, Counting}
+use Rattle.plan.specs.Demands.{noShot, ArcIn, Tiling, Counting}
 use Rattle.plan.proofs.ArcSums.{arcs-length}
 use Rattle.plan.proofs.Runs.{shots-length}
 

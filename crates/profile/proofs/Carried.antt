@@ -17,13 +17,13 @@ use Rattle.plan.specs.Shots.{Shot, lastStop, arcs, arcAt, noArc, runOf}
 use Rattle.plan.specs.Checks.{litShots}
 use Rattle.plan.specs.Demands.{noShot}
 use Rattle.plan.proofs.ArcSums.{active-length, arcs-length}
-use Rattle.plan.proofs.Tiling.{tiling, Pointed, pointed, points-lit}
+use Rattle.plan.proofs.Tiling.{tiling, pointed, points-lit}
 use Rattle.state.specs.declared.State.{State}
 use Rattle.state.specs.declared.Job.{Job}
 use Rattle.state.specs.declared.Job.the-variants.{Absent, Counted, Endless}
 use Rattle.state.proofs.Measuring.{Measures, measures}
 use Rattle.profile.specs.Points.{pointDirection, pointWords}
-use Rattle.profile.specs.Profiles.{Given, pointsOf, sectorOf, sectorsOf, fieldsOf}
+use Rattle.profile.specs.Profiles.{Given, pointsOf, sectorOf, sectorsOf}
 use Rattle.profile.specs.Revolutions.{risen, profileOf, revolved}
 use Rattle.profile.specs.Demands.{Turning, NeverLonger, SentAcceptable, PointsAreShots}
 use Rattle.profile.proofs.ProfileLengths.{fields-many, profile-long, fields-fit}

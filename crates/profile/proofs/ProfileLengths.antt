@@ -23,7 +23,7 @@ use Rattle.plan.specs.Shots.{lastStop, arcs}
 use Rattle.plan.proofs.ArcSums.{arcs-length}
 use Rattle.state.specs.declared.State.{State}
 use Rattle.state.specs.Modes.{modeNumber}
-use Rattle.profile.specs.Points.{selected, pointWords}
+use Rattle.profile.specs.Points.{pointWords}
 use Rattle.profile.specs.Profiles.{Given, pointAt, pointsOf, sectorOf, sectorsOf, fieldsOf}
 
 -- a word that is selected is one, another none

@@ -1,12 +1,11 @@
 -- Demand 1 of revolutions: a refusal changes nothing, each is given exactly then, and ranges are kept.
 use mathlib.Core.Path.{_≡_, refl, _∙_}
-use mathlib.Core.Bool.{Bool, true, false, not, _&&_}
-use mathlib.Core.List.{List}
-use Prim.Native.Nat.{ℕ, suc, _+_, _-_, _≤_, _<_}
+use mathlib.Core.Bool.{Bool, true, false, not}
+use Prim.Native.Nat.{ℕ, _+_, _-_, _≤_}
 use native.Mathlib.Omega.{arith}
-use lib.Dec.{T, leb, ltb, eqb, le→leb, leb→le}
+use lib.Dec.{T, ltb, eqb, le→leb, leb→le}
 use lib.ListN.{length}
-use borrow.Author.Tests.{eqb-true, eqb-false}
+use borrow.Author.Tests.{eqb-false}
 use Rattle.words.specs.Choice.{if_then_else_}
 use Rattle.words.proofs.Tests.{and-l, and-r, and-both}
 use Rattle.layout.specs.Masks.{maskOk}
@@ -17,9 +16,9 @@ use Rattle.state.specs.declared.Job.the-variants.{Absent, Counted, Endless}
 use Rattle.state.specs.Ranges.{isMeasure, jobOk, inRange}
 use Rattle.state.specs.Replies.{Result, refused, delivered, Unchanged}
 use Rattle.state.proofs.Delivery.{refused-unchanged, done, delivered-by, delivered-number}
-use Rattle.state.proofs.Parts.{Parts, parts, whole}
+use Rattle.state.proofs.Parts.{parts, whole}
 use Rattle.profile.specs.Profiles.{Given}
-use Rattle.profile.specs.Revolutions.{jobAfter, turned, revolved, revolutionRefusal, revolution}
+use Rattle.profile.specs.Revolutions.{jobAfter, revolved, revolutionRefusal, revolution}
 use Rattle.profile.specs.Demands.{RefusalsChangeNothing, listsFit, RefusalsExactly, RangesKept}
 
 -- what holds of every refusal and of the outcome holds of the revolution

@@ -1,9 +1,8 @@
 -- Document 01, 'Bench figures': the P rows of profiles. Proved in proofs/ProfileRows.antt.
 use mathlib.Core.List.{List, [], _∷_}
 use Prim.Native.Nat.{ℕ}
-use lib.ListN.{length, replicate}
+use lib.ListN.{replicate}
 use Rattle.words.specs.Rows.{Row, Shown}
-use Rattle.layout.specs.Layout.{layout}
 use Rattle.layout.specs.Lengths.{profileLength}
 use Rattle.plan.specs.declared.Plan.{Plan}
 use Rattle.plan.specs.Figures.{freshPlan, twoSectors}
@@ -12,7 +11,7 @@ use Rattle.state.specs.declared.Mode.the-variants.{Measure}
 use Rattle.state.specs.declared.Job.the-variants.{Counted}
 use Rattle.state.specs.Fields.{withConfig, withPlans, withDrive}
 use Rattle.state.specs.Fresh.{freshState}
-use Rattle.profile.specs.Profiles.{Given, fieldsOf}
+use Rattle.profile.specs.Profiles.{Given}
 use Rattle.profile.specs.Revolutions.{revolution}
 
 -- a sensor that measures at 10 Hz, with a job of one profile

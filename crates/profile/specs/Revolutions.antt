@@ -1,5 +1,5 @@
 -- Document 01, 'A revolution and its profile' and 'Numbers for no' 1, 7, 8, 6: what a revolution does.
-use mathlib.Core.Bool.{Bool, not, _&&_}
+use mathlib.Core.Bool.{not, _&&_}
 use mathlib.Core.List.{List, []}
 use Prim.Native.Nat.{ℕ, _+_, _-_, _%_}
 use lib.Dec.{eqb}

@@ -1,6 +1,5 @@
 -- All P rows: each part's, one after another.
-use mathlib.Core.Path.{_≡_, refl}
-use mathlib.Core.List.{List, _++_, map, map-append}
+use mathlib.Core.List.{List, _++_, map-append}
 use Rattle.words.specs.Rows.{Row, Shown}
 use Rattle.plan.specs.Figures.{planRows}
 use Rattle.plan.proofs.PlanRows.{plan-figures}

@@ -6,8 +6,7 @@ use lib.ListN.{length}
 use Rattle.words.specs.Buffers.{over, Wrote}
 use Rattle.state.specs.declared.Reply.{Reply}
 use Rattle.state.specs.Replies.{Result, Answered}
-use Rattle.services.specs.Answers.{packed}
-use Rattle.promises.specs.Determined.{Determines, OneAnswer, Determined, OneDetermines}
+use Rattle.promises.specs.Determined.{OneAnswer, Determined, OneDetermines}
 
 -- the law: two answers that equal the one are equal
 pub one-determines : OneDetermines

@@ -1,28 +1,28 @@
 -- What is sent is read.
 use mathlib.Core.Path.{_≡_, refl, sym, ap, _∙_}
-use mathlib.Core.Bool.{Bool, true, false, not, _&&_}
+use mathlib.Core.Bool.{Bool, true, false, not}
 use mathlib.Core.List.{List, [], _∷_}
-use Prim.Native.Nat.{ℕ, _+_}
+use Prim.Native.Nat.{ℕ}
 use native.Mathlib.Omega.{arith}
 use lib.Dec.{T, ltb}
 use lib.ListN.{length, getD}
 use Rattle.words.specs.Choice.{if_then_else_}
 use Rattle.words.proofs.Tests.{and-l, and-r}
-use Rattle.layout.specs.Masks.{maskOk, uncounted}
+use Rattle.layout.specs.Masks.{maskOk}
 use Rattle.layout.specs.Layout.{layout}
 use Rattle.state.specs.declared.State.{State}
 use Rattle.state.specs.declared.Mode.{Mode}
 use Rattle.state.specs.declared.Job.{Job}
 use Rattle.state.specs.declared.Job.the-variants.{Absent, Counted, Endless}
 use Rattle.state.specs.Ranges.{isMeasure, jobOk, inRange}
-use Rattle.state.proofs.Parts.{Parts, parts}
+use Rattle.state.proofs.Parts.{parts}
 use Rattle.profile.specs.Profiles.{Given, fieldsOf}
 use Rattle.profile.specs.Revolutions.{risen, profileOf, revolved, revolution}
 use Rattle.profile.specs.Demands.{listsFit, Turning}
 use Rattle.profile.proofs.Revolved.{revolution-by, refusals-exactly}
 use Rattle.profile.proofs.Carried.{sent-acceptable}
 use Rattle.reader.proofs.RoundTrip.{reads-back}
-use Rattle.promises.specs.Exchange.{sending, Reads, SentIsRead}
+use Rattle.promises.specs.Exchange.{sending, SentIsRead}
 
 -- a revolution that is not refused takes its state and lists, and writes the words of its outcome
 

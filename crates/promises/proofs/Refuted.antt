@@ -1,6 +1,6 @@
 -- Wrong answers, each refused by one computed word or number.
-use mathlib.Core.Path.{_≡_, refl, sym, ap, _∙_}
-use mathlib.Core.List.{List, [], _∷_}
+use mathlib.Core.Path.{ap}
+use mathlib.Core.List.{List}
 use Prim.Native.Nat.{ℕ}
 use native.Mathlib.Omega.{arith}
 use lib.ListN.{getD}
@@ -14,8 +14,6 @@ use Rattle.state.specs.Replies.{delivered}
 use Rattle.profile.specs.Revolutions.{revolved, revolutionRefusal, revolution}
 use Rattle.reader.specs.Readings.{headRefusal, bodyOf, readOf}
 use Rattle.reader.specs.Stretches.{stretchRefusalOf}
-use Rattle.dialogue.specs.declared.Record.{Record}
-use Rattle.dialogue.specs.declared.Record.the-variants.{End, Cut, Whole}
 use Rattle.dialogue.specs.Records.{recordOf, recordWords}
 use Rattle.dialogue.specs.Lines.{digits, stripped, decimal, spacedHex, lineOf, fitting}
 use Rattle.dialogue.specs.Talks.{sizeOf, lineAt}

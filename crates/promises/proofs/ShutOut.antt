@@ -1,7 +1,7 @@
 -- No stand-in that document 01 names meets the contracts: each is held against one or two calls whose answers are computed.
 use mathlib.Core.Path.{_≡_, refl, sym, ap, _∙_}
 use mathlib.Core.List.{List, [], _∷_}
-use Prim.Native.Nat.{ℕ, _≤_}
+use Prim.Native.Nat.{ℕ}
 use native.Mathlib.Omega.{arith}
 use lib.Dec.{T}
 use lib.ListN.{length, getD, replicate}
@@ -9,10 +9,10 @@ use Rattle.words.specs.Buffers.{over, inTurn}
 use Rattle.plan.specs.declared.Plan.{Plan}
 use Rattle.plan.specs.Sectors.{sector, isStep, entryInRange, planInRange, filled}
 use Rattle.plan.specs.Validity.{ValidPlan}
-use Rattle.plan.specs.Shots.{Shot, runOf}
+use Rattle.plan.specs.Shots.{Shot}
 use Rattle.plan.specs.Checks.{litShots, measureError}
 use Rattle.plan.specs.Figures.{freshPlan}
-use Rattle.plan.specs.Demands.{actives, noShot}
+use Rattle.plan.specs.Demands.{noShot}
 use Rattle.normal.specs.NormalForm.{normalPlan, planRefusal}
 use Rattle.normal.specs.Demands.{Normalises}
 use Rattle.normal.proofs.Demand3.{demand3, answers-zero}

@@ -11,7 +11,7 @@ use Rattle.normal.specs.NormalForm.{normalisedOf}
 use Rattle.state.specs.declared.State.{State}
 use Rattle.state.specs.declared.Reply.{Reply}
 use Rattle.state.specs.Fresh.{freshState}
-use Rattle.state.specs.Replies.{Outcome, Result, Answered}
+use Rattle.state.specs.Replies.{Outcome, Answered}
 use Rattle.services.specs.declared.Served.{Served}
 use Rattle.services.specs.Answers.{Gives}
 use Rattle.sensor.specs.Requests.{requested}

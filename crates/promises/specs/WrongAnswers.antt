@@ -17,7 +17,7 @@ use Rattle.flat.specs.Sending.{sending}
 use Rattle.flat.specs.Sent.{Sent}
 use Rattle.reader.specs.Demands.{turnedRound}
 use Rattle.reader.specs.Stretches.{stretchRefusalOf}
-use Rattle.dialogue.specs.declared.Record.the-variants.{Cut, Whole}
+use Rattle.dialogue.specs.declared.Record.the-variants.{Whole}
 use Rattle.dialogue.specs.Records.{Taken}
 use Rattle.dialogue.specs.Lines.{lineOf, fitting}
 use Rattle.dialogue.specs.Talks.{Answers}

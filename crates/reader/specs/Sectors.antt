@@ -1,5 +1,5 @@
 -- Document 01, 'A revolution and its profile': a sector as the host's reader finds it, and the format by which it is read.
-use mathlib.Core.List.{List, [], _∷_}
+use mathlib.Core.List.{List}
 use Prim.Native.Nat.{ℕ, _*_}
 use Rattle.words.specs.declared.Word.{Word}
 use Rattle.words.specs.declared.Word.the-variants.{Absent}

@@ -28,8 +28,8 @@ use Rattle.services.specs.Working.{idleOf, coldOf, stopMeasure}
 use Rattle.sensor.specs.declared.Service.{Service}
 use Rattle.sensor.specs.declared.Service.the-variants.{GetStatus, GetSignal, SetSignal, SetConfig, GetConfig, SetFunction, GetFunction, GetProfile, CancelProfile, DoReset, TransIdle, TransRotate, TransMeasure, Unknown}
 use Rattle.sensor.specs.Table.{rowOf, services, named, serviceOf, outcomeOf}
-use Rattle.sensor.specs.Requests.{isListed, requestRefusal, outcome, requested}
-use Rattle.sensor.specs.Demands.{Tabled, TableHolds, configuration, Stays, OnlyThese}
+use Rattle.sensor.specs.Requests.{isListed, outcome}
+use Rattle.sensor.specs.Demands.{TableHolds, configuration, OnlyThese}
 
 -- the response code is the first word
 abbrev Responds : ℕ → Outcome → Type 0

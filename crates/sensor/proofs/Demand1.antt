@@ -2,7 +2,7 @@
 use mathlib.Core.Path.{_≡_, refl, sym, subst, _∙_}
 use mathlib.Core.Bool.{Bool, true, false, not, _&&_}
 use mathlib.Core.List.{List, [], _∷_}
-use Prim.Native.Nat.{ℕ, zero, suc, _≤_, _<_}
+use Prim.Native.Nat.{ℕ, zero, suc, _≤_}
 use native.Mathlib.Omega.{arith}
 use lib.Dec.{T, ltb, eqb}
 use lib.ListN.{length, getD, take}
@@ -21,13 +21,12 @@ use Rattle.state.specs.declared.Reply.{Reply}
 use Rattle.state.specs.Replies.{Outcome, Result, refused, delivered, Answered, Unchanged}
 use Rattle.state.proofs.Delivery.{refused-unchanged, done, delivered-by, delivered-number, delivered-room}
 use Rattle.state.proofs.Parts.{Parts, parts, whole}
-use Rattle.services.specs.Answers.{answer}
 use Rattle.services.proofs.Kept.{signal-kept, config-kept, function-kept, profile-kept, cancel-kept, idle-kept, reset-kept, rotate-kept, measure-kept}
 use Rattle.sensor.specs.declared.Service.{Service}
 use Rattle.sensor.specs.declared.Service.the-variants.{GetStatus, GetSignal, SetSignal, SetConfig, GetConfig, SetFunction, GetFunction, GetProfile, CancelProfile, DoReset, TransIdle, TransRotate, TransMeasure, Unknown}
 use Rattle.sensor.specs.Table.{rowOf, services, named, serviceOf, allowed, outcomeOf}
 use Rattle.sensor.specs.Requests.{isListed, serviceRefusal, requestRefusal, outcome, requested}
-use Rattle.sensor.specs.Demands.{RefusalsChangeNothing, numbersForNo, RefusalsExactly, RangesKept}
+use Rattle.sensor.specs.Demands.{RefusalsChangeNothing, RefusalsExactly, RangesKept}
 
 -- what holds of every refusal, and of the outcome of a request that none of 1 to 5 refuses, holds of the request
 pub requested-by : (P : Result → Type 0) (s : State) (ws : List ℕ) (room : ℕ) → ((n : ℕ) → P (refused s n)) → (requestRefusal s ws ≡ 0 → P (done (outcome s ws)))

@@ -1,10 +1,9 @@
 -- A state in its ranges that measures: its working plan is valid for its step and passes the checks, and it turns.
 use mathlib.Core.Path.{_≡_, refl}
 use Prim.Native.Nat.{ℕ, _≤_}
-use lib.Dec.{T, leb, eqb, leb→le, eqb→eq}
+use lib.Dec.{T, leb, leb→le, eqb→eq}
 use lib.ListN.{length}
 use Rattle.words.proofs.Tests.{and-l, and-r}
-use Rattle.plan.specs.declared.Plan.{Plan}
 use Rattle.plan.specs.Sectors.{isStep}
 use Rattle.plan.specs.Validity.{ValidPlan}
 use Rattle.plan.specs.Checks.{measureError}
@@ -12,8 +11,8 @@ use Rattle.plan.proofs.RangeValid.{Passes, passes, valid-of}
 use Rattle.state.specs.declared.State.{State}
 use Rattle.state.specs.declared.Mode.{Mode}
 use Rattle.state.specs.declared.Mode.the-variants.{Idle, Rotate, Measure}
-use Rattle.state.specs.Ranges.{speedOk, configOk, runningOk, checksOk, isMeasure, inRange}
-use Rattle.state.proofs.Parts.{Parts, parts}
+use Rattle.state.specs.Ranges.{speedOk, configOk, checksOk, isMeasure, inRange}
+use Rattle.state.proofs.Parts.{parts}
 
 pub record Measures (s : State) : Type 0 where
   pub mode : s .mode ≡ Measure

@@ -1,5 +1,4 @@
 -- A state in its ranges, taken apart and put together again: one fact for each sentence of 'State and ranges'.
-use mathlib.Core.Bool.{_&&_}
 use lib.Dec.{T}
 use Rattle.plan.specs.Sectors.{planInRange}
 use Rattle.words.proofs.Tests.{and-l, and-r, and-both}

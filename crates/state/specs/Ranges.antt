@@ -1,5 +1,5 @@
 -- Document 01, 'State and ranges', sentence by sentence.
-use mathlib.Core.Bool.{Bool, true, false, _&&_, _||_}
+use mathlib.Core.Bool.{Bool, true, false, _&&_}
 use Prim.Native.Nat.{ℕ, _+_}
 use lib.Dec.{leb, eqb}
 use Rattle.layout.specs.Masks.{maskOk}

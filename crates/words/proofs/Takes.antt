@@ -6,11 +6,11 @@ use Prim.Native.Nat.{ℕ, _+_, _-_, _≤_, _<_}
 use native.Mathlib.Omega.{arith}
 use lib.Dec.{ltb}
 use lib.ListN.{length, getD}
-use borrow.Author.Tests.{lt-ltb, le-ltb, ltb-true, ltb-false}
+use borrow.Author.Tests.{lt-ltb, le-ltb, ltb-true}
 use Rattle.words.specs.Choice.{if_then_else_}
 use Rattle.words.specs.declared.Word.the-variants.{Absent, Given}
 use Rattle.words.specs.declared.Took.{Took}
-use Rattle.words.specs.Places.{takeAt, skipAt}
+use Rattle.words.specs.Places.{takeAt}
 
 module _ (on : Bool) (ws : List ℕ) (at : ℕ) where
   pub take-there : on ≡ true → at < length ws → record { word = Given (getD ws at 0); at = at + 1 } ≡ takeAt on ws at

@@ -1,15 +1,14 @@
 -- Formats: one description that says how fields are laid out and how they are read back.
 -- A is what a reader finds, with a run of words as its place and length; F is what is laid out, with the words themselves.
-use Prim.Native.Nat.{ℕ, zero, suc, _+_, _-_, _*_, _/_, _%_, _^_, _≤_}
+use Prim.Native.Nat.{ℕ, zero, suc, _+_, _≤_}
 use mathlib.Core.Path.{_≡_}
 use mathlib.Core.List.{List, [], _∷_, _++_, map}
-use mathlib.Core.Bool.{Bool, true, false}
-use lib.ListN.{length, getD, take, drop}
+use mathlib.Core.Bool.{Bool}
+use lib.ListN.{length, take, drop}
 use Rattle.words.specs.declared.Word.{Word}
-use Rattle.words.specs.declared.Word.the-variants.{Absent, Given}
 use Rattle.words.specs.Lists.{Each}
 use Rattle.words.specs.Words.{wordsOf, Shaped, laidAll}
-use Rattle.words.specs.Parse.{Got, short, got, Parser, Span, after, mapGot, word, span, timesParse}
+use Rattle.words.specs.Parse.{got, Parser, Span, after, mapGot, word, span, timesParse}
 
 pub record Format (A F : Type 0) : Type 1 where
   -- reads it

@@ -1,7 +1,7 @@
 -- Parsers over lists of words. A parser is handed the place it stands at and the words from there on, and finds that the words end
 -- early, or a value with the place and the words behind it.
 use Prim.Native.Nat.{ℕ, zero, suc, _+_}
-use mathlib.Core.List.{List, [], _∷_, _++_}
+use mathlib.Core.List.{List, [], _∷_}
 use mathlib.Core.Bool.{Bool, true, false}
 use lib.ListN.{length, drop}
 use lib.Dec.{leb}

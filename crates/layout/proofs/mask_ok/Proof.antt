@@ -1,5 +1,3 @@
-use borrow.Author.Needs.{needs}
-use borrow.Author.Tests.{eq-eqb, ne-eqb}
 use Rattle.words.proofs.Tests.{picks}
 use Rattle.layout.specs.Masks.{maskOk}
 use Rattle.layout.proofs.mask_ok.Statement.{statement}
