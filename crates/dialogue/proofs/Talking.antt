@@ -14,7 +14,7 @@ use Rattle.words.proofs.Puts.{none-yet, as-long}
 use Rattle.state.specs.declared.State.{State}
 use Rattle.state.specs.declared.Reply.{Reply}
 use Rattle.state.specs.Replies.{Answered}
-use Rattle.sensor.specs.Requests.{requested}
+use Rattle.sensor.specs.Requests.{requestOf}
 use Rattle.sensor.proofs.Demand1.{answer-words}
 use Rattle.dialogue.specs.declared.Said.{Said}
 use Rattle.dialogue.specs.Lines.{lineOf, fitting}
@@ -34,7 +34,7 @@ some-there [] e = absurd (e refl)
 some-there (x ∷ xs) e = refl
 
 -- `answer_words`
-pub replied : (s : State) (number : ℕ) (ws before after : List ℕ) (r : Reply) (d d′ : List ℕ) → length d ≡ 5 → Answered r d d′ (requested s ws (length d))
+pub replied : (s : State) (number : ℕ) (ws before after : List ℕ) (r : Reply) (d d′ : List ℕ) → length d ≡ 5 → Answered r d d′ (requestOf s ws (length d))
     → (answer : List ℕ) → answer ≡ take (r .count) d′ → (n : ℕ) → Wrote (fitting (lineOf number (r .refusal) answer) (length before)) before after n
     → Replied s number ws before after (r .state) n
 unfolding lineFor

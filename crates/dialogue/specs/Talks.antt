@@ -7,7 +7,7 @@ use Rattle.words.specs.Choice.{if_then_else_}
 use Rattle.words.specs.Lists.{some}
 use Rattle.words.specs.Buffers.{Wrote}
 use Rattle.state.specs.declared.State.{State}
-use Rattle.sensor.specs.Requests.{requested}
+use Rattle.sensor.specs.Requests.{requestOf}
 use Rattle.dialogue.specs.declared.Record.{Record}
 use Rattle.dialogue.specs.declared.Record.the-variants.{End, Cut, Whole}
 use Rattle.dialogue.specs.declared.Said.{Said}
@@ -16,7 +16,7 @@ use Rattle.dialogue.specs.Lines.{lineOf, fitting}
 
 -- the line of a request
 unfoldable pub lineFor : State → ℕ → List ℕ → List ℕ
-lineFor s number ws = lineOf number (requested s ws 5 .reply .refusal) (requested s ws 5 .written)
+lineFor s number ws = lineOf number (requestOf s ws 5 .reply .refusal) (requestOf s ws 5 .written)
 
 -- the bytes of a whole record, none of any other
 abbrev pub sizeOf : Record → ℕ
@@ -37,5 +37,5 @@ lineAt s number bytes room = linePicked (recordOf bytes) (lineFor s number (reco
 -- the line over the front of the text, the next state and the record's bytes taken; where there is no line, nothing is done
 pub record Answers (s : State) (number : ℕ) (bytes before after : List ℕ) (r : Said) : Type 0 where
   pub text : Wrote (lineAt s number bytes (length before)) before after (r .length)
-  pub state : r .state ≡ (if some (lineAt s number bytes (length before)) then requested s (recordWords bytes) 5 .reply .state else s)
+  pub state : r .state ≡ (if some (lineAt s number bytes (length before)) then requestOf s (recordWords bytes) 5 .reply .state else s)
   pub taken : r .taken ≡ (if some (lineAt s number bytes (length before)) then sizeOf (recordOf bytes) else 0)

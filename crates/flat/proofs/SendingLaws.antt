@@ -6,9 +6,9 @@ use Rattle.state.specs.declared.State.{State}
 use Rattle.state.specs.declared.Reply.{Reply}
 use Rattle.state.specs.Replies.{Answered}
 use Rattle.profile.specs.Profiles.{Given}
-use Rattle.profile.specs.Revolutions.{revolution}
+use Rattle.profile.specs.Revolutions.{revolutionOf}
 use Rattle.flat.specs.Sent.{Sent}
 
-pub sent-so : (s s′ : State) (g : Given) (room : ℕ) (r : Reply) (before after : List ℕ) → s ≡ s′ → Answered r before after (revolution s g room)
-    → Sent (r .count) before after (revolution s′ g room)
+pub sent-so : (s s′ : State) (g : Given) (room : ℕ) (r : Reply) (before after : List ℕ) → s ≡ s′ → Answered r before after (revolutionOf s g room)
+    → Sent (r .count) before after (revolutionOf s′ g room)
 sent-so s s′ g room r before after e a = record { counted = rw (a .reply, e); buffer = rw e at (a .buffer) }

@@ -2,7 +2,7 @@
 ghost use mathlib.Core.Path.{_≡_};
 ghost use lib.ListN.{length};
 ghost use Rattle.profile.specs.Asked.{given};
-ghost use Rattle.profile.specs.Revolutions.{revolution};
+ghost use Rattle.profile.specs.Revolutions.{revolutionOf};
 ghost use Rattle.flat.specs.Sending.{entryOf, planOf, sending};
 ghost use Rattle.flat.specs.Sent.{Sent};
 use plan::Plan;
@@ -77,7 +77,7 @@ pub extern "C" fn slackjib_profile(
     out: &mut [u16],
 ) -> usize
     ensures { λ r. ⌜ Sent r (now (out .entry)) (now (out .exit))
-        (revolution (sending (now (plan .entry)) step running mask) (given start (now (distances .entry)) (now (echoes .entry)))
+        (revolutionOf (sending (now (plan .entry)) step running mask) (given start (now (distances .entry)) (now (echoes .entry)))
         (length (now (out .entry)))) ⌝ }
 {
     let state = sending(plan, step, running, mask);

@@ -9,9 +9,9 @@ use Rattle.state.specs.Ranges.{configOk, inRange}
 use Rattle.state.specs.Replies.{delivered}
 use Rattle.profile.specs.Points.{pointWords}
 use Rattle.profile.specs.Profiles.{pointsOf}
-use Rattle.profile.specs.Revolutions.{revolved, revolutionRefusal, revolution}
+use Rattle.profile.specs.Revolutions.{revolved, revolutionRefusal, revolutionOf}
 use Rattle.profile.specs.Figures.{ProfileFigures}
 
 pub profile-figures : ProfileFigures
-unfolding revolution delivered revolutionRefusal revolved inRange configOk isStep entryInRange planInRange litShots measureError maskOk pointsOf pointWords inTurn profileLength
+unfolding revolutionOf delivered revolutionRefusal revolved inRange configOk isStep entryInRange planInRange litShots measureError maskOk pointsOf pointWords inTurn profileLength
 profile-figures = refl

@@ -18,13 +18,13 @@ use Rattle.state.specs.Replies.{Result, refused, delivered, Unchanged}
 use Rattle.state.proofs.Delivery.{refused-unchanged, done, delivered-by, delivered-number}
 use Rattle.state.proofs.Parts.{parts, whole}
 use Rattle.profile.specs.Profiles.{Given}
-use Rattle.profile.specs.Revolutions.{jobAfter, revolved, revolutionRefusal, revolution}
+use Rattle.profile.specs.Revolutions.{jobAfter, revolved, revolutionRefusal, revolutionOf}
 use Rattle.profile.specs.Demands.{RefusalsChangeNothing, listsFit, RefusalsExactly, RangesKept}
 
 -- what holds of every refusal and of the outcome holds of the revolution
 pub revolution-by : (P : Result → Type 0) (s : State) (g : Given) (room : ℕ) → ((n : ℕ) → (n ≡ 0 → ⊥) → P (refused s n)) → P (done (revolved s g))
-    → P (revolution s g room)
-unfolding revolution
+    → P (revolutionOf s g room)
+unfolding revolutionOf
 revolution-by P s g room h k = go (eqb (revolutionRefusal s g) 0) refl
   where
     go : (b : Bool) → eqb (revolutionRefusal s g) 0 ≡ b → P (if b then delivered s (revolved s g) room else refused s (revolutionRefusal s g))
@@ -45,7 +45,7 @@ in-order false false true f = refl
 in-order false false false f = refl
 
 pub refusals-exactly : RefusalsExactly
-unfolding revolution revolutionRefusal
+unfolding revolutionOf revolutionRefusal
 refusals-exactly s g room =
     go (eqb (revolutionRefusal s g) 0)
     ∙ in-order (not (inRange s)) (not (isMeasure (s .mode))) (not (listsFit s g)) (ltb room (length (revolved s g .words)))

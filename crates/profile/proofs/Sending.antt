@@ -31,8 +31,7 @@ use Rattle.state.proofs.Parts.{parts}
 use Rattle.state.proofs.Measuring.{measures}
 use Rattle.state.proofs.Delivery.{reply, is-refused, no-room, has-room}
 use Rattle.profile.specs.Profiles.{Given, fieldsOf}
-use Rattle.profile.specs.Revolutions as Revolutions
-use Rattle.profile.specs.Revolutions.{risen, turned, profileOf, revolved, revolutionRefusal}
+use Rattle.profile.specs.Revolutions.{risen, turned, profileOf, revolved, revolutionRefusal, revolutionOf}
 use Rattle.profile.specs.Asked.{given, ArcAsked, ProfileAsked, SendAsked, JobAsked}
 use Rattle.profile.proofs.PointSums.{if-most}
 use Rattle.profile.proofs.ProfileLengths.{profile-long}
@@ -113,13 +112,13 @@ module _ (s : State) (ds es : List ℕ) (start n : ℕ) (en : n ≡ revolutionRe
   unfolding revolutionRefusal
   same = en
 
-  pub refuses : {d : List ℕ} → (n ≡ 0 → ⊥) → Answered (reply s n 0) d d (Revolutions.revolution s (given start ds es) (length d))
-  unfolding Revolutions.revolution
+  pub refuses : {d : List ℕ} → (n ≡ 0 → ⊥) → Answered (reply s n 0) d d (revolutionOf s (given start ds es) (length d))
+  unfolding revolutionOf
   refuses {d} h = rw (← same, ne-eqb n 0 h) (is-refused s n d)
 
   module _ (z : n ≡ 0) where
-    goes-on : (room : ℕ) → Revolutions.revolution s (given start ds es) room ≡ delivered s (revolved s (given start ds es)) room
-    unfolding Revolutions.revolution
+    goes-on : (room : ℕ) → revolutionOf s (given start ds es) room ≡ delivered s (revolved s (given start ds es)) room
+    unfolding revolutionOf
     goes-on room = rw (← same, eq-eqb n 0 z)
 
     pub accepted : length (s .working .sectors) ≡ 8 → SendAsked s (given start ds es)
@@ -141,17 +140,17 @@ module _ (s : State) (ds es : List ℕ) (start n : ℕ) (en : n ≡ revolutionRe
         tests false b c e = absurd (omega arith)
 
     module _ {d : List ℕ} where
-      pub no-profile : s .job ≡ Absent → {next : State} → next ≡ turned s → Answered (reply next 0 0) d d (Revolutions.revolution s (given start ds es) (length d))
+      pub no-profile : s .job ≡ Absent → {next : State} → next ≡ turned s → Answered (reply next 0 0) d d (revolutionOf s (given start ds es) (length d))
       unfolding revolved
       no-profile j e =
           let w : profileOf s (given start ds es) (s .job) ≡ [] = ap (λ (x : Job). profileOf s (given start ds es) x) j in
           rw (goes-on, e) (has-room s (revolved s (given start ds es)) d 0 (ap length w) (omega arith) d (rw w (sym (over-none d))))
 
       module _ {r : Reply} {d' : List ℕ} (mask sent sent' : ℕ) (sends : Answered r d d' (delivered s (sending s (given start ds es) mask sent') (length d))) where
-        pub counted-profile : {left : ℕ} → s .job ≡ Counted left mask sent → sent' ≡ sent + 1 → Answered r d d' (Revolutions.revolution s (given start ds es) (length d))
+        pub counted-profile : {left : ℕ} → s .job ≡ Counted left mask sent → sent' ≡ sent + 1 → Answered r d d' (revolutionOf s (given start ds es) (length d))
         unfolding revolved
         counted-profile j e = rw (goes-on, j) (rw (e, j) at sends)
 
-        pub endless-profile : s .job ≡ Endless mask sent → sent' ≡ risen sent → Answered r d d' (Revolutions.revolution s (given start ds es) (length d))
+        pub endless-profile : s .job ≡ Endless mask sent → sent' ≡ risen sent → Answered r d d' (revolutionOf s (given start ds es) (length d))
         unfolding revolved
         endless-profile j e = rw (goes-on, j) (rw (e, j) at sends)

@@ -22,12 +22,12 @@ use Rattle.state.specs.Ranges.{isMeasure, inRange}
 use Rattle.state.specs.Replies.{Unchanged}
 use Rattle.profile.specs.Points.{pointDirection, selected, pointWords}
 use Rattle.profile.specs.Profiles.{Given, pointsOf, sectorOf, fieldsOf}
-use Rattle.profile.specs.Revolutions.{revolved, revolution}
+use Rattle.profile.specs.Revolutions.{revolved, revolutionOf}
 
 -- Demand 1: a refusal changes nothing
 abbrev pub RefusalsChangeNothing : Type 0
 RefusalsChangeNothing =
-    (s : State) (g : Given) (before : List ℕ) → (revolution s g (length before) .reply .refusal ≡ 0 → ⊥) → Unchanged s before (revolution s g (length before))
+    (s : State) (g : Given) (before : List ℕ) → (revolutionOf s g (length before) .reply .refusal ≡ 0 → ⊥) → Unchanged s before (revolutionOf s g (length before))
 
 -- both lists have N words
 abbrev pub listsFit : State → Given → Bool
@@ -37,7 +37,7 @@ listsFit s g = eqb (length (g .distances)) (revolutionShots (s .step .0)) && eqb
 abbrev pub RefusalsExactly : Type 0
 RefusalsExactly =
     (s : State) (g : Given) (room : ℕ)
-    → revolution s g room .reply .refusal
+    → revolutionOf s g room .reply .refusal
     ≡ (if not (inRange s) then 1 else
     if not (isMeasure (s .mode)) then 7 else
     if not (listsFit s g) then 8 else
@@ -45,7 +45,7 @@ RefusalsExactly =
 
 -- a state in its ranges is in its ranges after every revolution
 abbrev pub RangesKept : Type 0
-RangesKept = (s : State) (g : Given) (room : ℕ) → T (inRange s) → T (inRange (revolution s g room .reply .state))
+RangesKept = (s : State) (g : Given) (room : ℕ) → T (inRange s) → T (inRange (revolutionOf s g room .reply .state))
 
 -- a state and lists that a revolution takes
 pub record Turning (s : State) (g : Given) : Type 0 where

@@ -12,7 +12,7 @@ use Rattle.state.specs.declared.Job.the-variants.{Counted}
 use Rattle.state.specs.Fields.{withConfig, withPlans, withDrive}
 use Rattle.state.specs.Fresh.{freshState}
 use Rattle.profile.specs.Profiles.{Given}
-use Rattle.profile.specs.Revolutions.{revolution}
+use Rattle.profile.specs.Revolutions.{revolutionOf}
 
 -- a sensor that measures at 10 Hz, with a job of one profile
 abbrev pub measuring : ℕ → Plan → ℕ → State
@@ -26,13 +26,13 @@ abbrev pub profileRows : List Row
 profileRows =
     -- "mask 0120h on the fresh plan: 724 words"
     record {
-      given = revolution (measuring 8 freshPlan 0x0120) (still 720) 724 .reply .count ∷ profileLength 0x0120 1 720 ∷ [];
+      given = revolutionOf (measuring 8 freshPlan 0x0120) (still 720) 724 .reply .count ∷ profileLength 0x0120 1 720 ∷ [];
       figure = 724 ∷ 724 ∷ [];
     }
     -- "step 4, sectors (1, 1436), (3, 3360): sector 1 has 481 points from 1440; sector 0 starts at 3364. At 10 Hz from start time 0,
     -- sector 1's times are 66 and 99 ms": number, step, points, time and direction of the first shot and of the last, sector by sector
     ∷ record {
-      given = revolution (measuring 4 twoSectors 0x18F8) (still 1440) 17 .written;
+      given = revolutionOf (measuring 4 twoSectors 0x18F8) (still 1440) 17 .written;
       figure =
           0x8301 ∷ 0x18F8 ∷ 0x0102
           ∷ 0 ∷ 4 ∷ 0 ∷ 0 ∷ 3364 ∷ 66 ∷ 1436

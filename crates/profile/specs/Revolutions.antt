@@ -46,6 +46,6 @@ revolutionRefusal s g =
     if not (eqb (length (g .distances)) (revolutionShots (s .step .0)) && eqb (length (g .echoes)) (revolutionShots (s .step .0))) then 8 else 0
 
 -- a revolution into a buffer of so many words
-unfoldable pub revolution : State → Given → ℕ → Result
-revolution s g room =
+unfoldable pub revolutionOf : State → Given → ℕ → Result
+revolutionOf s g room =
     if eqb (revolutionRefusal s g) 0 then delivered s (revolved s g) room else refused s (revolutionRefusal s g)

@@ -5,8 +5,7 @@ ghost use Rattle.state.specs.Replies.{Answered, delivered};
 ghost use Rattle.layout.specs.Layout.{layout};
 ghost use Rattle.profile.specs.Profiles.{fieldsOf};
 ghost use Rattle.profile.specs.Asked.{given, JobAsked, SendAsked};
-ghost use Rattle.profile.specs.Revolutions as Revolutions;
-ghost use Rattle.profile.specs.Revolutions.{risen, jobAfter, turned, revolutionRefusal};
+ghost use Rattle.profile.specs.Revolutions.{risen, jobAfter, turned, revolutionRefusal, revolutionOf};
 use crate::profiles::plan_length;
 use crate::profiles::write_profile;
 use state::Job;
@@ -121,7 +120,7 @@ pub fn revolution(
     echoes: &[u16],
     out: &mut [u16],
 ) -> Reply
-    ensures { λ r. ⌜ Answered r (now (out .entry)) (now (out .exit)) (Revolutions.revolution state (given (start .0) (now (distances .entry)) (now (echoes .entry))) (length (now (out .entry)))) ⌝ }
+    ensures { λ r. ⌜ Answered r (now (out .entry)) (now (out .exit)) (revolutionOf state (given (start .0) (now (distances .entry)) (now (echoes .entry))) (length (now (out .entry)))) ⌝ }
 {
     let refusal = revolution_refusal(state, distances, echoes);
     if refusal != 0 {

@@ -17,7 +17,7 @@ use Rattle.state.specs.declared.Job.the-variants.{Absent, Counted, Endless}
 use Rattle.state.specs.Ranges.{isMeasure, jobOk, inRange}
 use Rattle.state.proofs.Parts.{parts}
 use Rattle.profile.specs.Profiles.{Given, fieldsOf}
-use Rattle.profile.specs.Revolutions.{risen, profileOf, revolved, revolution}
+use Rattle.profile.specs.Revolutions.{risen, profileOf, revolved, revolutionOf}
 use Rattle.profile.specs.Demands.{listsFit, Turning}
 use Rattle.profile.proofs.Revolved.{revolution-by, refusals-exactly}
 use Rattle.profile.proofs.Carried.{sent-acceptable}
@@ -32,12 +32,12 @@ tests true true false d e = absurd (omega arith)
 tests true false c d e = absurd (omega arith)
 tests false b c d e = absurd (omega arith)
 
-turning : (s : State) (g : Given) (room : ℕ) → length (s .working .sectors) ≡ 8 → revolution s g room .reply .refusal ≡ 0 → Turning s g
+turning : (s : State) (g : Given) (room : ℕ) → length (s .working .sectors) ≡ 8 → revolutionOf s g room .reply .refusal ≡ 0 → Turning s g
 turning s g room eight e =
     let t = tests (inRange s) (isMeasure (s .mode)) (listsFit s g) (ltb room (length (revolved s g .words))) (sym (refusals-exactly s g room) ∙ e) in
     record { eight = eight; range = t .0; measures = t .1; lists = t .2 }
 
-writes : (s : State) (g : Given) (room : ℕ) → revolution s g room .reply .refusal ≡ 0 → revolution s g room .written ≡ revolved s g .words
+writes : (s : State) (g : Given) (room : ℕ) → revolutionOf s g room .reply .refusal ≡ 0 → revolutionOf s g room .written ≡ revolved s g .words
 writes s g room = revolution-by (λ x. x .reply .refusal ≡ 0 → x .written ≡ revolved s g .words) s g room (λ n z e. absurd (z e)) (λ _. refl)
 
 -- the mask of a job in its ranges, and its profile

@@ -24,11 +24,11 @@ use Rattle.services.specs.Configuration.{workingSet}
 use Rattle.sensor.specs.declared.Service.{Service}
 use Rattle.sensor.specs.declared.Service.the-variants.{GetStatus, GetSignal, SetSignal, SetConfig, GetConfig, SetFunction, GetFunction, GetProfile, CancelProfile, DoReset, TransIdle, TransRotate, TransMeasure, Unknown}
 use Rattle.sensor.specs.Table.{serviceOf, outcomeOf}
-use Rattle.sensor.specs.Requests.{outcome, requested}
+use Rattle.sensor.specs.Requests.{outcome, requestOf}
 use Rattle.sensor.specs.Demands.{numbersForNo}
 use Rattle.sensor.proofs.Demand1.{requested-by, refusals-exactly as request-number, ranges-kept as request-kept}
 use Rattle.profile.specs.Profiles.{Given}
-use Rattle.profile.specs.Revolutions.{revolved, revolution}
+use Rattle.profile.specs.Revolutions.{revolved, revolutionOf}
 use Rattle.profile.specs.Demands.{listsFit}
 use Rattle.profile.proofs.Revolved.{revolution-by, refusals-exactly as revolution-number, ranges-kept as revolution-kept}
 use Rattle.promises.specs.Life.{Event, asks, turns, resultOf, life, isEvent, Lives, Life}
@@ -66,13 +66,13 @@ outcome-eight TransRotate s a b c d h = picked Eight (eqb a 0) _ _ h (picked Eig
 outcome-eight TransMeasure s a b c d h = picked Eight (eqb (measureError (s .working) (s .step .0) (s .running)) 0) _ _ h h
 outcome-eight Unknown s a b c d h = h
 
-request-eight : (s : State) (ws : List ℕ) (room : ℕ) → Eight s → Eight (requested s ws room .reply .state)
+request-eight : (s : State) (ws : List ℕ) (room : ℕ) → Eight s → Eight (requestOf s ws room .reply .state)
 unfolding outcome
 request-eight s ws room h =
     requested-by (λ x. Eight (x .reply .state)) s ws room (λ _. h)
     (λ _. outcome-eight (serviceOf (getD ws 0 0)) s (getD ws 1 0) (getD ws 2 0) (getD ws 3 0) (getD ws 4 0) h)
 
-revolution-eight : (s : State) (g : Given) (room : ℕ) → Eight s → Eight (revolution s g room .reply .state)
+revolution-eight : (s : State) (g : Given) (room : ℕ) → Eight s → Eight (revolutionOf s g room .reply .state)
 unfolding revolved
 revolution-eight s g room h = revolution-by (λ x. Eight (x .reply .state)) s g room (λ _ _. h) h
 

@@ -11,7 +11,7 @@ use Rattle.layout.specs.Masks.{maskOk}
 use Rattle.state.specs.declared.State.{State}
 use Rattle.state.specs.Ranges.{configOk, inRange}
 use Rattle.state.specs.Replies.{delivered}
-use Rattle.profile.specs.Revolutions.{revolved, revolutionRefusal, revolution}
+use Rattle.profile.specs.Revolutions.{revolved, revolutionRefusal, revolutionOf}
 use Rattle.reader.specs.Readings.{headRefusal, bodyOf, readOf}
 use Rattle.reader.specs.Stretches.{stretchRefusalOf}
 use Rattle.dialogue.specs.Records.{recordOf, recordWords}
@@ -20,7 +20,7 @@ use Rattle.dialogue.specs.Talks.{sizeOf, lineAt}
 use Rattle.promises.specs.WrongAnswers.{WrongAnswers}
 
 pub wrong-answers : WrongAnswers
-unfolding over inTurn isStep entryInRange planInRange litShots measureError maskOk configOk inRange delivered revolved revolutionRefusal revolution headRefusal bodyOf readOf stretchRefusalOf recordOf recordWords digits stripped decimal spacedHex lineOf fitting lineAt
+unfolding over inTurn isStep entryInRange planInRange litShots measureError maskOk configOk inRange delivered revolved revolutionRefusal revolutionOf headRefusal bodyOf readOf stretchRefusalOf recordOf recordWords digits stripped decimal spacedHex lineOf fitting lineAt
 wrong-answers =
     record {
       fresh-turning = λ e. omega (arith, ap (λ (s : State). s .running) e);

@@ -24,10 +24,10 @@ use Rattle.state.specs.Replies.{delivered, Result}
 use Rattle.state.specs.Fields.{withPlans, withPort}
 use Rattle.state.specs.Fresh.{freshState}
 use Rattle.sensor.specs.Table.{serviceOf}
-use Rattle.sensor.specs.Requests.{serviceRefusal, requestRefusal, outcome, requested}
+use Rattle.sensor.specs.Requests.{serviceRefusal, requestRefusal, outcome, requestOf}
 use Rattle.profile.specs.Points.{pointWords}
 use Rattle.profile.specs.Profiles.{Given, pointsOf}
-use Rattle.profile.specs.Revolutions.{revolved, revolutionRefusal, revolution}
+use Rattle.profile.specs.Revolutions.{revolved, revolutionRefusal, revolutionOf}
 use Rattle.profile.specs.Figures.{measuring, still}
 use Rattle.reader.specs.declared.Reading.{Reading}
 use Rattle.reader.specs.Readings.{headRefusal, bodyOf, readOf}
@@ -71,10 +71,10 @@ shut-out result s i j d k w =
     }
 
 -- SET_SIGNAL to a sensor whose bit 2 of the port is set, and GET_STATUS
-requests : ShutOut requested
-unfolding over requested delivered requestRefusal serviceRefusal outcome serviceOf inRange configOk isStep entryInRange planInRange litShots measureError maskOk
+requests : ShutOut requestOf
+unfolding over requestOf delivered requestRefusal serviceRefusal outcome serviceOf inRange configOk isStep entryInRange planInRange litShots measureError maskOk
 requests =
-    shut-out requested (withPort freshState 4 0) (0x0105 ∷ 1 ∷ []) (0x0102 ∷ []) (replicate 5 0) 1
+    shut-out requestOf (withPort freshState 4 0) (0x0105 ∷ 1 ∷ []) (0x0102 ∷ []) (replicate 5 0) 1
     (record {
       served = refl;
       other-input = λ e. omega (arith, e);
@@ -88,10 +88,10 @@ requests =
 abbrev lateStart : Given
 lateStart = record { start = 7; distances = replicate 90 0; echoes = replicate 90 0 }
 
-revolutions : ShutOut revolution
-unfolding over revolution delivered revolutionRefusal revolved inRange configOk isStep entryInRange planInRange litShots measureError maskOk pointsOf pointWords inTurn
+revolutions : ShutOut revolutionOf
+unfolding over revolutionOf delivered revolutionRefusal revolved inRange configOk isStep entryInRange planInRange litShots measureError maskOk pointsOf pointWords inTurn
 revolutions =
-    shut-out revolution (measuring 64 (filled (sector 3 5696 ∷ [])) 0x0040) lateStart (still 90) (replicate 5 0) 3
+    shut-out revolutionOf (measuring 64 (filled (sector 3 5696 ∷ [])) 0x0040) lateStart (still 90) (replicate 5 0) 3
     (record {
       served = refl;
       other-input = λ e. omega (arith, e);
@@ -105,12 +105,12 @@ revolutions =
 abbrev twoSectors : ℕ → Plan
 twoSectors second = filled (sector 1 1408 ∷ sector second 5696 ∷ [])
 
-only-the-first-sector : (f : Call Given) → Answering revolution f → OnlyTheFirstSector f → ⊥
-unfolding over revolution delivered revolutionRefusal revolved inRange configOk isStep entryInRange planInRange litShots measureError maskOk pointsOf pointWords inTurn
+only-the-first-sector : (f : Call Given) → Answering revolutionOf f → OnlyTheFirstSector f → ⊥
+unfolding over revolutionOf delivered revolutionRefusal revolved inRange configOk isStep entryInRange planInRange litShots measureError maskOk pointsOf pointWords inTurn
 only-the-first-sector f h same =
     let s = measuring 64 freshPlan 0x0020 in
     let d : List ℕ = replicate 5 0 in
-    let e = agree revolution f h (wordAt 4) (withPlans s (twoSectors 3) (s .stored)) (withPlans s (twoSectors 1) (s .stored)) (still 90) (still 90) d
+    let e = agree revolutionOf f h (wordAt 4) (withPlans s (twoSectors 3) (s .stored)) (withPlans s (twoSectors 1) (s .stored)) (still 90) (still 90) d
     (ap (λ (l : List ℕ). getD l 4 0) (same s (twoSectors 3) (twoSectors 1) (still 90) d refl refl)) in
     omega (arith, e)
 

@@ -14,9 +14,9 @@ use Rattle.state.specs.Fresh.{freshState}
 use Rattle.state.specs.Replies.{Outcome, Answered}
 use Rattle.services.specs.declared.Served.{Served}
 use Rattle.services.specs.Answers.{Gives}
-use Rattle.sensor.specs.Requests.{requested}
+use Rattle.sensor.specs.Requests.{requestOf}
 use Rattle.profile.specs.Profiles.{Given}
-use Rattle.profile.specs.Revolutions.{revolution as revolutionOf}
+use Rattle.profile.specs.Revolutions.{revolutionOf}
 use Rattle.flat.specs.Sending.{sending}
 use Rattle.flat.specs.Sent.{Sent}
 use Rattle.reader.specs.declared.Reading.{Reading}
@@ -42,7 +42,7 @@ pub record OneAnswer {A : Type 0} (Contract : A → Type 0) : Type 0 where
 -- answers with its result and the buffer afterwards.
 pub record Determined : Type 0 where
   pub request : (s : State) (ws before : List ℕ)
-      → OneAnswer (λ (a : Reply × List ℕ). Answered (a .0) before (a .1) (requested s ws (length before)))
+      → OneAnswer (λ (a : Reply × List ℕ). Answered (a .0) before (a .1) (requestOf s ws (length before)))
   pub revolution : (s : State) (g : Given) (before : List ℕ)
       → OneAnswer (λ (a : Reply × List ℕ). Answered (a .0) before (a .1) (revolutionOf s g (length before)))
   pub normal-plan : (p : Plan) (step : ℕ) → OneAnswer (λ (a : Normalised). a ≡ normalisedOf p step)

@@ -10,7 +10,7 @@ use Rattle.state.specs.declared.State.{State}
 use Rattle.state.specs.declared.Job.{Job}
 use Rattle.state.specs.declared.Job.the-variants.{Absent, Counted, Endless}
 use Rattle.profile.specs.Profiles.{Given, fieldsOf}
-use Rattle.profile.specs.Revolutions.{risen, revolution}
+use Rattle.profile.specs.Revolutions.{risen, revolutionOf}
 use Rattle.reader.specs.Readings.{readOf}
 use Rattle.reader.specs.Stretches.{fieldsIn}
 
@@ -29,10 +29,10 @@ pub record Reads (ws : List ℕ) (s : State) (g : Given) (mask sent : ℕ) : Typ
 -- what a revolution writes, where its job's mask carries what the reader needs
 abbrev pub ProfileRead : State → Given → ℕ → Type 0
 ProfileRead s g room =
-    revolution s g room .reply .refusal ≡ 0
+    revolutionOf s g room .reply .refusal ≡ 0
     → (mask sent : ℕ) → sending (s .job) ≡ mask ∷ sent ∷ []
     → T (not (uncounted mask))
-    → Reads (revolution s g room .written) s g mask sent
+    → Reads (revolutionOf s g room .written) s g mask sent
 
 abbrev pub SentIsRead : Type 0
 SentIsRead = (s : State) (g : Given) (room : ℕ) → length (s .working .sectors) ≡ 8 → ProfileRead s g room

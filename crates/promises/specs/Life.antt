@@ -9,9 +9,9 @@ use Rattle.state.specs.declared.State.{State}
 use Rattle.state.specs.Fresh.{freshState}
 use Rattle.state.specs.Ranges.{inRange}
 use Rattle.state.specs.Replies.{Result}
-use Rattle.sensor.specs.Requests.{requested}
+use Rattle.sensor.specs.Requests.{requestOf}
 use Rattle.profile.specs.Profiles.{Given}
-use Rattle.profile.specs.Revolutions.{revolution}
+use Rattle.profile.specs.Revolutions.{revolutionOf}
 use Rattle.promises.specs.Exchange.{ProfileRead}
 
 -- what happens to a sensor: it is asked by words, or turns with what it is given; and the length of the buffer that is lent
@@ -20,8 +20,8 @@ pub data Event : Type 0 where
   turns : Given → ℕ → Event
 
 abbrev pub resultOf : State → Event → Result
-resultOf s (asks ws room) = requested s ws room
-resultOf s (turns g room) = revolution s g room
+resultOf s (asks ws room) = requestOf s ws room
+resultOf s (turns g room) = revolutionOf s g room
 
 -- each event with the state that it comes upon
 pub record Moment : Type 0 where

@@ -13,9 +13,9 @@ use Rattle.state.specs.declared.Reply.{Reply}
 use Rattle.state.specs.Fields.{withPlans}
 use Rattle.state.specs.Fresh.{freshState}
 use Rattle.state.specs.Replies.{Result, Answered}
-use Rattle.sensor.specs.Requests.{requested}
+use Rattle.sensor.specs.Requests.{requestOf}
 use Rattle.profile.specs.Profiles.{Given}
-use Rattle.profile.specs.Revolutions.{revolution}
+use Rattle.profile.specs.Revolutions.{revolutionOf}
 use Rattle.reader.specs.declared.Reading.{Reading}
 use Rattle.reader.specs.Readings.{readOf}
 
@@ -69,9 +69,9 @@ pub record ShutOut {In : Type 0} (result : State → In → ℕ → Result) : Ty
 
 -- "(all by demand 2)"; "a normaliser that hands its plan back (demand 3, fewest sectors) or gives one fixed plan (demand 3, same shots)"
 pub record StandInsShutOut : Type 0 where
-  pub requests : ShutOut requested
-  pub revolutions : ShutOut revolution
-  pub only-the-first-sector : (f : Call Given) → Answering revolution f → OnlyTheFirstSector f → ⊥
+  pub requests : ShutOut requestOf
+  pub revolutions : ShutOut revolutionOf
+  pub only-the-first-sector : (f : Call Given) → Answering revolutionOf f → OnlyTheFirstSector f → ⊥
   pub reader-refuses-all : (f : List ℕ → Reading) → ((ws : List ℕ) → f ws ≡ readOf ws) → ((ws : List ℕ) → f ws .refusal ≡ 0 → ⊥) → ⊥
   pub one-reading-for-all : (f : List ℕ → Reading) → ((ws : List ℕ) → f ws ≡ readOf ws) → ((vs ws : List ℕ) → f vs ≡ f ws) → ⊥
   pub plan-handed-back : Normalises (λ p. p) → ⊥

@@ -11,7 +11,7 @@ use Rattle.state.specs.declared.Mode.the-variants.{Rotate}
 use Rattle.state.specs.declared.Job.the-variants.{Absent}
 use Rattle.state.specs.Fields.{withPlans, withDrive}
 use Rattle.state.specs.Fresh.{freshState}
-use Rattle.profile.specs.Revolutions.{revolution}
+use Rattle.profile.specs.Revolutions.{revolutionOf}
 use Rattle.profile.specs.Figures.{still}
 use Rattle.flat.specs.Sending.{sending}
 use Rattle.flat.specs.Sent.{Sent}
@@ -30,7 +30,7 @@ pub record WrongAnswers : Type 0 where
   pub place-first : 17 ≡ stretchRefusalOf [] 8 → ⊥
   pub place-s : 0 ≡ stretchRefusalOf turnedRound 2 → ⊥
   -- `slackjib_profile`: the number for no in the place of the count, at mask 0
-  pub number-for-count : (after : List ℕ) → Sent 1 (7 ∷ []) after (revolution (sending [] 8 10 0) (still 720) 1) → ⊥
+  pub number-for-count : (after : List ℕ) → Sent 1 (7 ∷ []) after (revolutionOf (sending [] 8 10 0) (still 720) 1) → ⊥
   -- `take_record`: the low byte first; a record that its end cuts taken for whole
   pub low-byte-first : Taken (Whole 1) (1 ∷ 1 ∷ 2 ∷ []) (7 ∷ []) (0x0201 ∷ []) → ⊥
   pub cut-for-whole : (after : List ℕ) → Taken (Whole 1) (1 ∷ 1 ∷ []) (7 ∷ []) after → ⊥

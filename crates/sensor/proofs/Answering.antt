@@ -14,7 +14,7 @@ use Rattle.services.specs.Answers.{Gives, unpacked}
 use Rattle.services.proofs.Packing.{unpacked-long, unpacks}
 use Rattle.sensor.specs.declared.Service.{Service}
 use Rattle.sensor.specs.Table.{serviceOf, outcomeOf}
-use Rattle.sensor.specs.Requests.{requestRefusal, outcome, requested}
+use Rattle.sensor.specs.Requests.{requestRefusal, outcome, requestOf}
 
 -- `service_of`: an arm is the code's service
 pub code-is : (code k : ℕ) (v : Service) → code ≡ k → v ≡ serviceOf k → v ≡ serviceOf code
@@ -42,11 +42,11 @@ module _ (v : Served) (s : State) (d : List ℕ) (five : length (v .words) ≡ 5
 
 -- `request`
 module _ (s : State) (ws d : List ℕ) (n : ℕ) (en : n ≡ requestRefusal s ws) where
-  pub turned-down : (n ≡ 0 → ⊥) → Answered (reply s n 0) d d (requested s ws (length d))
-  unfolding requested
+  pub turned-down : (n ≡ 0 → ⊥) → Answered (reply s n 0) d d (requestOf s ws (length d))
+  unfolding requestOf
   turned-down h = rw (← en, ne-eqb _ _ h) (is-refused s n d)
 
   pub answered : n ≡ 0 → (v : Served) → Gives v (outcome s ws) → (r : Reply) (after : List ℕ)
-      → Answered r d after (delivered s (unpacked v) (length d)) → Answered r d after (requested s ws (length d))
-  unfolding requested
+      → Answered r d after (delivered s (unpacked v) (length d)) → Answered r d after (requestOf s ws (length d))
+  unfolding requestOf
   answered h v g r after x = rw (← en, eq-eqb _ _ h, ← unpacks v _ g) x

@@ -25,13 +25,13 @@ use Rattle.services.proofs.Kept.{signal-kept, config-kept, function-kept, profi
 use Rattle.sensor.specs.declared.Service.{Service}
 use Rattle.sensor.specs.declared.Service.the-variants.{GetStatus, GetSignal, SetSignal, SetConfig, GetConfig, SetFunction, GetFunction, GetProfile, CancelProfile, DoReset, TransIdle, TransRotate, TransMeasure, Unknown}
 use Rattle.sensor.specs.Table.{rowOf, services, named, serviceOf, allowed, outcomeOf}
-use Rattle.sensor.specs.Requests.{isListed, serviceRefusal, requestRefusal, outcome, requested}
+use Rattle.sensor.specs.Requests.{isListed, serviceRefusal, requestRefusal, outcome, requestOf}
 use Rattle.sensor.specs.Demands.{RefusalsChangeNothing, RefusalsExactly, RangesKept}
 
 -- what holds of every refusal, and of the outcome of a request that none of 1 to 5 refuses, holds of the request
 pub requested-by : (P : Result → Type 0) (s : State) (ws : List ℕ) (room : ℕ) → ((n : ℕ) → P (refused s n)) → (requestRefusal s ws ≡ 0 → P (done (outcome s ws)))
-    → P (requested s ws room)
-unfolding requested
+    → P (requestOf s ws room)
+unfolding requestOf
 requested-by P s ws room h k = go (eqb (requestRefusal s ws) 0) refl
   where
     go : (b : Bool) → eqb (requestRefusal s ws) 0 ≡ b → P (if b then delivered s (outcome s ws) room else refused s (requestRefusal s ws))
@@ -39,8 +39,8 @@ requested-by P s ws room h k = go (eqb (requestRefusal s ws) 0) refl
     go false e = h (requestRefusal s ws)
 
 -- no more words than the buffer has are counted
-pub requested-room : (s : State) (ws : List ℕ) (room : ℕ) → requested s ws room .reply .count ≤ room
-unfolding requested
+pub requested-room : (s : State) (ws : List ℕ) (room : ℕ) → requestOf s ws room .reply .count ≤ room
+unfolding requestOf
 requested-room s ws room = go (eqb (requestRefusal s ws) 0)
   where
     go : (b : Bool) → (if b then delivered s (outcome s ws) room else refused s (requestRefusal s ws)) .reply .count ≤ room
@@ -48,12 +48,12 @@ requested-room s ws room = go (eqb (requestRefusal s ws) 0)
     go false = omega arith
 
 -- the words written are counted
-requested-count : (s : State) (ws : List ℕ) (room : ℕ) → requested s ws room .reply .count ≡ length (requested s ws room .written)
+requested-count : (s : State) (ws : List ℕ) (room : ℕ) → requestOf s ws room .reply .count ≡ length (requestOf s ws room .written)
 requested-count s ws room = requested-by (λ x. x .reply .count ≡ length (x .written)) s ws room (λ _. refl) (λ _. refl)
 
 -- what a caller finds in its buffer: the answer's words, as many as are counted, and no more than it has
-module _ (r : Reply) (d d′ : List ℕ) (s : State) (ws : List ℕ) (a : Answered r d d′ (requested s ws (length d))) where
-  fits : length (requested s ws (length d) .written) ≤ length d
+module _ (r : Reply) (d d′ : List ℕ) (s : State) (ws : List ℕ) (a : Answered r d d′ (requestOf s ws (length d))) where
+  fits : length (requestOf s ws (length d) .written) ≤ length d
   fits = rw (← requested-count s ws (length d)) (requested-room s ws (length d))
 
   pub answer-within : r .count ≤ length d′
@@ -62,7 +62,7 @@ module _ (r : Reply) (d d′ : List ℕ) (s : State) (ws : List ℕ) (a : Answer
   pub answer-counted : r .count ≡ length (take (r .count) d′)
   answer-counted = sym (length-take-le (r .count) d′ answer-within)
 
-  pub answer-words : take (r .count) d′ ≡ requested s ws (length d) .written
+  pub answer-words : take (r .count) d′ ≡ requestOf s ws (length d) .written
   unfolding over
   answer-words = rw (a .reply, a .buffer, requested-count s ws (length d)) (take-append-seam _ _)
 
@@ -115,9 +115,9 @@ module _ (s : State) (ws : List ℕ) where
   unfolding requestRefusal serviceRefusal
   refusal-is = rw (no-word ws, code-listed (getD ws 0 0))
 
-  number-is : (room : ℕ) → requested s ws room .reply .refusal
+  number-is : (room : ℕ) → requestOf s ws room .reply .refusal
       ≡ (if eqb (requestRefusal s ws) 0 then (if ltb room (length (outcome s ws .words)) then 6 else 0) else requestRefusal s ws)
-  unfolding requested
+  unfolding requestOf
   number-is room = go (eqb (requestRefusal s ws) 0)
     where
       go : (b : Bool)

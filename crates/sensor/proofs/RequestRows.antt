@@ -6,9 +6,9 @@ use Rattle.layout.specs.Masks.{maskOk}
 use Rattle.state.specs.Ranges.{configOk, inRange}
 use Rattle.state.specs.Replies.{delivered}
 use Rattle.sensor.specs.Table.{serviceOf}
-use Rattle.sensor.specs.Requests.{serviceRefusal, requestRefusal, outcome, requested}
+use Rattle.sensor.specs.Requests.{serviceRefusal, requestRefusal, outcome, requestOf}
 use Rattle.sensor.specs.Figures.{dialogue, RequestFigures}
 
 pub request-figures : RequestFigures
-unfolding dialogue requested delivered requestRefusal serviceRefusal outcome serviceOf inRange configOk isStep entryInRange planInRange litShots measureError maskOk
+unfolding dialogue requestOf delivered requestRefusal serviceRefusal outcome serviceOf inRange configOk isStep entryInRange planInRange litShots measureError maskOk
 request-figures = refl

@@ -13,12 +13,12 @@ use Rattle.state.specs.Ranges.{inRange}
 use Rattle.state.specs.Replies.{Unchanged}
 use Rattle.sensor.specs.declared.Service.{Service}
 use Rattle.sensor.specs.Table.{rowOf, services, serviceOf, allowed, outcomeOf}
-use Rattle.sensor.specs.Requests.{isListed, outcome, requested}
+use Rattle.sensor.specs.Requests.{isListed, outcome, requestOf}
 
 -- Demand 1: a refusal "writes nothing, hands the state back as it came, and gives count 0"
 abbrev pub RefusalsChangeNothing : Type 0
 RefusalsChangeNothing =
-    (s : State) (ws before : List ℕ) → (requested s ws (length before) .reply .refusal ≡ 0 → ⊥) → Unchanged s before (requested s ws (length before))
+    (s : State) (ws before : List ℕ) → (requestOf s ws (length before) .reply .refusal ≡ 0 → ⊥) → Unchanged s before (requestOf s ws (length before))
 
 -- 'Numbers for no' 1 to 6, as they are tabled: state outside its ranges; no word; code not in the table; wrong number of words; mode
 -- not listed; buffer shorter than the answer
@@ -34,11 +34,11 @@ numbersForNo s ws room =
 
 -- "Request order 1 to 6 [..] Each is given exactly then."
 abbrev pub RefusalsExactly : Type 0
-RefusalsExactly = (s : State) (ws : List ℕ) (room : ℕ) → requested s ws room .reply .refusal ≡ firstOf 1 (numbersForNo s ws room)
+RefusalsExactly = (s : State) (ws : List ℕ) (room : ℕ) → requestOf s ws room .reply .refusal ≡ firstOf 1 (numbersForNo s ws room)
 
 -- a state in its ranges is in its ranges after every request, refused or served
 abbrev pub RangesKept : Type 0
-RangesKept = (s : State) (ws : List ℕ) (room : ℕ) → T (areWords ws) → T (inRange s) → T (inRange (requested s ws room .reply .state))
+RangesKept = (s : State) (ws : List ℕ) (room : ℕ) → T (areWords ws) → T (inRange s) → T (inRange (requestOf s ws room .reply .state))
 
 -- the table names each service by its code, and "A response code is the request code plus 8000h", first of the words where there are any
 pub record Tabled (v : Service) : Type 0 where
@@ -54,10 +54,10 @@ configuration s = s .id ∷ s .speed ∷ s .step .0 ∷ []
 
 -- what only some services change
 pub record Stays (s : State) (ws : List ℕ) (room : ℕ) : Type 0 where
-  pub config : (getD ws 0 0 ≡ 0x0201 → ⊥) → configuration (requested s ws room .reply .state) ≡ configuration s
-  pub working : (getD ws 0 0 ≡ 0x020A → ⊥) → (getD ws 0 0 ≡ 0x0401 → ⊥) → requested s ws room .reply .state .working ≡ s .working
-  pub stored : (getD ws 0 0 ≡ 0x020A → ⊥) → requested s ws room .reply .state .stored ≡ s .stored
-  pub no-config : requested s ws room .written ≡ 0x8201 ∷ 0xFFFF ∷ [] → requested s ws room .reply .state ≡ s
+  pub config : (getD ws 0 0 ≡ 0x0201 → ⊥) → configuration (requestOf s ws room .reply .state) ≡ configuration s
+  pub working : (getD ws 0 0 ≡ 0x020A → ⊥) → (getD ws 0 0 ≡ 0x0401 → ⊥) → requestOf s ws room .reply .state .working ≡ s .working
+  pub stored : (getD ws 0 0 ≡ 0x020A → ⊥) → requestOf s ws room .reply .state .stored ≡ s .stored
+  pub no-config : requestOf s ws room .written ≡ 0x8201 ∷ 0xFFFF ∷ [] → requestOf s ws room .reply .state ≡ s
 
 abbrev pub OnlyThese : Type 0
 OnlyThese = (s : State) (ws : List ℕ) (room : ℕ) → Stays s ws room

@@ -4,12 +4,12 @@ use Prim.Native.Nat.{ℕ}
 use Rattle.words.specs.Rows.{Row, Shown}
 use Rattle.state.specs.declared.State.{State}
 use Rattle.state.specs.Fresh.{freshState}
-use Rattle.sensor.specs.Requests.{requested}
+use Rattle.sensor.specs.Requests.{requestOf}
 
 -- requests one after another, each into a buffer of five words, which every answer fits: the refusals, and the words behind each
 unfoldable pub dialogue : State → List (List ℕ) → List ℕ
 dialogue s [] = []
-dialogue s (ws ∷ rest) = (requested s ws 5 .reply .refusal ∷ requested s ws 5 .written) ++ dialogue (requested s ws 5 .reply .state) rest
+dialogue s (ws ∷ rest) = (requestOf s ws 5 .reply .refusal ∷ requestOf s ws 5 .written) ++ dialogue (requestOf s ws 5 .reply .state) rest
 
 abbrev pub requestRows : List Row
 requestRows =

@@ -35,6 +35,6 @@ unfoldable pub outcome : State → List ℕ → Outcome
 outcome s ws = outcomeOf (serviceOf (getD ws 0 0)) s (getD ws 1 0) (getD ws 2 0) (getD ws 3 0) (getD ws 4 0)
 
 -- a request into a buffer of so many words: one of refusals 1 to 5, or 6, or the outcome
-unfoldable pub requested : State → List ℕ → ℕ → Result
-requested s ws room =
+unfoldable pub requestOf : State → List ℕ → ℕ → Result
+requestOf s ws room =
     if eqb (requestRefusal s ws) 0 then delivered s (outcome s ws) room else refused s (requestRefusal s ws)

@@ -5,7 +5,7 @@ ghost use lib.ListN.{length, getD, take};
 ghost use Rattle.words.specs.Buffers.{over};
 ghost use Rattle.state.specs.Replies.{Answered, delivered};
 ghost use Rattle.services.specs.Answers.{Gives, unpacked};
-ghost use Rattle.sensor.specs.Requests.{serviceRefusal, requestRefusal, outcome, requested};
+ghost use Rattle.sensor.specs.Requests.{serviceRefusal, requestRefusal, outcome, requestOf};
 use crate::Service;
 use crate::table::is_allowed;
 use crate::table::serve;
@@ -98,7 +98,7 @@ fn deliver(served: Served, state: State, out: &mut [u16]) -> Reply
 
 // One request, answered into the buffer that is lent.
 pub fn request(state: State, words: &[u16], out: &mut [u16]) -> Reply
-    ensures { λ r. ⌜ Answered r (now (out .entry)) (now (out .exit)) (requested state (now (words .entry)) (length (now (out .entry)))) ⌝ }
+    ensures { λ r. ⌜ Answered r (now (out .entry)) (now (out .exit)) (requestOf state (now (words .entry)) (length (now (out .entry)))) ⌝ }
 {
     let refusal = request_refusal(state, words);
     if refusal != 0 {
