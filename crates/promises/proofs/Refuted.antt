@@ -1,10 +1,13 @@
 -- Wrong answers, each refused by one computed word or number.
 use mathlib.Core.Path.{ap}
+use mathlib.Core.Bool.{Bool}
 use mathlib.Core.List.{List}
 use Prim.Native.Nat.{ℕ}
 use native.Mathlib.Omega.{arith}
 use lib.ListN.{getD}
+use Rattle.words.specs.Choice.{if_then_else_}
 use Rattle.words.specs.Buffers.{over, inTurn}
+use Rattle.plan.specs.declared.Plan.{Plan}
 use Rattle.plan.specs.Sectors.{isStep, entryInRange, planInRange, entryAt, stopOf}
 use Rattle.plan.specs.Checks.{litShots, measureError}
 use Rattle.layout.specs.Masks.{maskOk}
@@ -19,10 +22,22 @@ use Rattle.dialogue.specs.Lines.{digits, stripped, decimal, spacedHex, lineOf, 
 use Rattle.dialogue.specs.Talks.{sizeOf, lineAt}
 use Rattle.promises.specs.WrongAnswers.{WrongAnswers}
 
+abbrev isTaken : Bool → ℕ
+isTaken b = if b then 1 else 0
+
 pub wrong-answers : WrongAnswers
 unfolding over inTurn isStep entryInRange planInRange litShots measureError maskOk configOk inRange delivered revolved revolutionRefusal revolutionOf headRefusal bodyOf readOf stretchRefusalOf recordOf recordWords digits stripped decimal spacedHex lineOf fitting lineAt
 wrong-answers =
     record {
+      product-cut = λ e. omega (arith, e);
+      first-word = λ e. omega (arith, e);
+      word-past-the-end = λ e. omega (arith, e);
+      first-entry = λ e. omega (arith, ap stopOf e);
+      entry-past-the-last = λ e. omega (arith, ap stopOf e);
+      first-entry-set = λ e. omega (arith, ap (λ (p : Plan). stopOf (entryAt p 0)) e);
+      every-stop = λ e. omega (arith, ap isTaken e);
+      three-words = λ e. omega (arith, e);
+      idle-number = λ e. omega (arith, e);
       fresh-turning = λ e. omega (arith, ap (λ (s : State). s .running) e);
       fresh-stop = λ e. omega (arith, ap (λ (s : State). stopOf (entryAt (s .working) 0)) e);
       place-first = λ e. omega (arith, e);

@@ -1,13 +1,18 @@
--- Answers that the contracts of the smaller public calls refuse, two for each where no edit of its code says so. Proved in
+-- Answers that the contracts of the smaller public functions refuse, where no edit of the code says so. Proved in
 -- proofs/Refuted.antt.
 use mathlib.Core.Path.{_≡_}
+use mathlib.Core.Bool.{true}
 use mathlib.Core.List.{List, [], _∷_}
-use Prim.Native.Nat.{ℕ}
-use lib.ListN.{length}
+use Prim.Native.Nat.{ℕ, _*_}
+use lib.ListN.{length, getD}
 use Rattle.words.specs.Buffers.{Wrote}
-use Rattle.plan.specs.Sectors.{sector, filled}
+use Rattle.plan.specs.declared.Plan.{Plan}
+use Rattle.plan.specs.Sectors.{sector, entryAt, withEntry, filled}
+use Rattle.plan.specs.Validity.{multiples}
+use Rattle.layout.specs.Masks.{pointWidth}
 use Rattle.state.specs.declared.State.{State}
-use Rattle.state.specs.declared.Mode.the-variants.{Rotate}
+use Rattle.state.specs.declared.Mode.the-variants.{Rotate, Measure}
+use Rattle.state.specs.Modes.{modeNumber}
 use Rattle.state.specs.declared.Job.the-variants.{Absent}
 use Rattle.state.specs.Fields.{withPlans, withDrive}
 use Rattle.state.specs.Fresh.{freshState}
@@ -22,7 +27,29 @@ use Rattle.dialogue.specs.Records.{Taken}
 use Rattle.dialogue.specs.Lines.{lineOf, fitting}
 use Rattle.dialogue.specs.Talks.{Answers}
 
+abbrev pub twoWords : List ℕ
+twoWords = 1 ∷ 2 ∷ []
+
+abbrev pub twoEntries : Plan
+twoEntries = filled (sector 3 1000 ∷ sector 1 3000 ∷ [])
+
 pub record WrongAnswers : Type 0 where
+  -- `product`: cut to 16 bits
+  pub product-cut : 0 ≡ 256 * 256 → ⊥
+  -- `word_at`: the first word for every place; the last word past the end
+  pub first-word : 1 ≡ getD twoWords 1 0 → ⊥
+  pub word-past-the-end : 2 ≡ getD twoWords 2 0 → ⊥
+  -- `entry_at`: the first entry for every place; the last active one past it
+  pub first-entry : sector 3 1000 ≡ entryAt twoEntries 1 → ⊥
+  pub entry-past-the-last : sector 1 3000 ≡ entryAt twoEntries 2 → ⊥
+  -- `with_entry`: the first entry set for every place
+  pub first-entry-set : withEntry twoEntries 0 (sector 4 2000) ≡ withEntry twoEntries 1 (sector 4 2000) → ⊥
+  -- `whole_steps`: every stop taken
+  pub every-stop : true ≡ multiples 8 (sector 3 4 ∷ []) → ⊥
+  -- `point_width`: three words whatever the mask is
+  pub three-words : 3 ≡ pointWidth 0x0100 → ⊥
+  -- `mode_number`: IDLE's for every mode
+  pub idle-number : 1 ≡ modeNumber Measure → ⊥
   -- `fresh`: a sensor that turns already; sector 0 up to the last direction of all
   pub fresh-turning : withDrive freshState Rotate 10 Absent ≡ freshState → ⊥
   pub fresh-stop : withPlans freshState (filled (sector 3 5759 ∷ [])) (freshState .stored) ≡ freshState → ⊥
