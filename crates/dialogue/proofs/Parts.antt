@@ -7,14 +7,10 @@ use native.Mathlib.Omega.{arith}
 use lib.Dec.{leb}
 use lib.ListN.{length, getD, length-append}
 use borrow.Author.Tests.{leb-true, le-leb, lt-leb}
-use Rattle.words.specs.Buffers.{Wrote, Put, inTurn}
+use Rattle.words.specs.Buffers.{Wrote, Put}
 use Rattle.words.proofs.Tests.{said-no, said-yes}
 use Rattle.words.proofs.Puts.{none-yet, room, and-put, put-first, put-then, turn-fits, turns-long}
-use Rattle.dialogue.specs.Lines.{glyph, digits, decimal, spacedHex, lineOf, fitting}
-
--- the first n words
-abbrev pub hexes : List ℕ → ℕ → List ℕ
-hexes ws n = inTurn (λ k. spacedHex (getD ws k 0)) n
+use Rattle.dialogue.specs.Lines.{glyph, digits, decimal, spacedHex, hexes, lineOf, fitting}
 
 -- `put_hex`
 pub hex-put : (w : ℕ) {a b c d : ℕ} {d₀ d₁ d₂ d₃ d₄ d₅ : List ℕ} {at r₁ r₂ r₃ r₄ r₅ : ℕ} → at + 5 ≤ length d₀ → Put (32 ∷ []) d₀ at d₁ r₁

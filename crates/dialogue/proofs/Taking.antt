@@ -11,7 +11,7 @@ use Rattle.words.specs.Buffers.{Put, over, inTurn}
 use Rattle.words.proofs.Overs.{over-none}
 use Rattle.words.proofs.Puts.{put-first, put-one, turn-put, turns-all, turns-long}
 use Rattle.dialogue.specs.declared.Record.the-variants.{End, Cut, Whole}
-use Rattle.dialogue.specs.Records.{recordWord, recordOf, recordWords, Taken}
+use Rattle.dialogue.specs.Records.{recordWord, recordOf, recordWords, TakeRecordSays}
 
 -- `take_words`
 module _ (bytes words₀ words : List ℕ) (k n : ℕ) (room : n ≤ length words₀) (so-far : Put (inTurn (recordWord (drop 1 bytes)) k) words₀ 0 words k) where
@@ -29,12 +29,12 @@ module _ (bytes words₀ words : List ℕ) (k n : ℕ) (room : n ≤ length word
   words-taken h l = put-first (turns-all (recordWord (drop 1 bytes)) n fits so-far h l) .words
 
 -- `take_record`
-pub no-record : (bytes words : List ℕ) → length bytes ≡ 0 → Taken End bytes words words
+pub no-record : (bytes words : List ℕ) → length bytes ≡ 0 → TakeRecordSays End bytes words words
 unfolding recordOf recordWords
 no-record [] words h = record { is = refl; words = sym (over-none words) }
 no-record (n ∷ bytes) words h = absurd (omega arith)
 
-pub cut-record : (bytes words : List ℕ) (n : ℕ) → (length bytes ≡ 0 → ⊥) → n ≡ getD bytes 0 0 → length bytes - 1 < 2 * n → Taken Cut bytes words words
+pub cut-record : (bytes words : List ℕ) (n : ℕ) → (length bytes ≡ 0 → ⊥) → n ≡ getD bytes 0 0 → length bytes - 1 < 2 * n → TakeRecordSays Cut bytes words words
 unfolding recordOf recordWords
 cut-record [] words n h e k = absurd (h refl)
 cut-record (b ∷ bytes) words n h e k =
@@ -42,7 +42,7 @@ cut-record (b ∷ bytes) words n h e k =
     record { is = rw (lt-leb _ _ cut); words = rw (lt-leb _ _ cut) (sym (over-none words)) }
 
 pub whole-record : (bytes words₀ words : List ℕ) (n : ℕ) → (length bytes ≡ 0 → ⊥) → n ≡ getD bytes 0 0 → 2 * n ≤ length bytes - 1
-    → words ≡ over (inTurn (recordWord (drop 1 bytes)) n) words₀ → Taken (Whole (getD bytes 0 0)) bytes words₀ words
+    → words ≡ over (inTurn (recordWord (drop 1 bytes)) n) words₀ → TakeRecordSays (Whole (getD bytes 0 0)) bytes words₀ words
 unfolding recordOf recordWords
 whole-record [] words₀ words n h e k w = absurd (h refl)
 whole-record (b ∷ bytes) words₀ words n h e k w =

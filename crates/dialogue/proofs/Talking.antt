@@ -14,14 +14,15 @@ use Rattle.words.proofs.Puts.{none-yet, as-long}
 use Rattle.state.specs.declared.State.{State}
 use Rattle.state.specs.declared.Reply.{Reply}
 use Rattle.state.specs.Replies.{Answered}
+use Rattle.services.specs.Answers.{longest}
 use Rattle.sensor.specs.Requests.{requestOf}
 use Rattle.sensor.proofs.Demand1.{answer-words}
 use Rattle.dialogue.specs.declared.Said.{Said}
 use Rattle.dialogue.specs.Lines.{lineOf, fitting}
 use Rattle.dialogue.specs.declared.Record.{Record}
 use Rattle.dialogue.specs.declared.Record.the-variants.{End, Cut, Whole}
-use Rattle.dialogue.specs.Records.{recordOf, recordWords, Taken}
-use Rattle.dialogue.specs.Talks.{lineFor, sizeOf, linePicked, lineAt, Answers}
+use Rattle.dialogue.specs.Records.{recordOf, recordWords, TakeRecordSays}
+use Rattle.dialogue.specs.Talks.{lineFor, sizeOf, linePicked, lineAt, AnswerSays}
 use Rattle.dialogue.specs.Asked.{Replied}
 use Rattle.dialogue.proofs.Rooms.{size-within, words-long, line-within, line-taken}
 
@@ -34,18 +35,18 @@ some-there [] e = absurd (e refl)
 some-there (x ∷ xs) e = refl
 
 -- `answer_words`
-pub replied : (s : State) (number : ℕ) (ws before after : List ℕ) (r : Reply) (d d′ : List ℕ) → length d ≡ 5 → Answered r d d′ (requestOf s ws (length d))
+pub replied : (s : State) (number : ℕ) (ws before after : List ℕ) (r : Reply) (d d′ : List ℕ) → length d ≡ longest → Answered r d d′ (requestOf s ws (length d))
     → (answer : List ℕ) → answer ≡ take (r .count) d′ → (n : ℕ) → Wrote (fitting (lineOf number (r .refusal) answer) (length before)) before after n
     → Replied s number ws before after (r .state) n
 unfolding lineFor
-replied s number ws before after r d d′ five a answer ea n w =
+replied s number ws before after r d d′ long a answer ea n w =
     record {
-      state = rw (a .reply, five);
+      state = rw (a .reply, long);
       text = rw line-is at w;
     }
   where
     line-is : lineOf number (r .refusal) answer ≡ lineFor s number ws
-    line-is = rw (ea, answer-words r d d′ s ws a, a .reply, five)
+    line-is = rw (ea, answer-words r d d′ s ws a, a .reply, long)
 
 -- the line of the record at the front, by what the record is
 line-at : (s : State) (number : ℕ) (bytes : List ℕ) (room : ℕ) (r : Record) → r ≡ recordOf bytes
@@ -54,7 +55,7 @@ unfolding lineAt
 line-at s number bytes room r e = rw (← e)
 
 -- a whole record's words in the array that they were taken into
-module _ (r : Record) (bytes w w′ : List ℕ) (t : Taken r bytes w w′) (m : ℕ) (whole : r ≡ Whole m) (n : ℕ) (same : n ≡ m) (long : length w ≡ 255) (few : n < 256) where
+module _ (r : Record) (bytes w w′ : List ℕ) (t : TakeRecordSays r bytes w w′) (m : ℕ) (whole : r ≡ Whole m) (n : ℕ) (same : n ≡ m) (long : length w ≡ 255) (few : n < 256) where
   many : length (recordWords bytes) ≡ n
   many = words-long bytes m (rw whole at (t .is)) ∙ sym same
 
@@ -72,29 +73,29 @@ module _ (r : Record) (bytes w w′ : List ℕ) (t : Taken r bytes w w′) (m : 
     fitted : Wrote (lineAt s number bytes (length before)) before after k
     fitted = rw (line-at s number bytes (length before) (Whole m) (sym whole ∙ t .is)) (rw words-are at (l .text))
 
-    pub not-said : k ≡ 0 → (said : Said) → said ≡ record { state = s; taken = 0; length = 0 } → Answers s number bytes before after said
+    pub not-said : k ≡ 0 → (said : Said) → said ≡ record { state = s; taken = 0; length = 0 } → AnswerSays s number bytes before after said
     not-said z said e =
         let none = none-there (lineAt s number bytes (length before)) (sym (fitted .counted) ∙ z) in
         rw e (record { text = rw z at fitted; state = rw none; taken = rw none })
 
-    pub is-said : (k ≡ 0 → ⊥) → Answers s number bytes before after (record { state = next; taken = 1 + 2 * n; length = k })
+    pub is-said : (k ≡ 0 → ⊥) → AnswerSays s number bytes before after (record { state = next; taken = 1 + 2 * n; length = k })
     is-said z =
         let there = some-there (lineAt s number bytes (length before)) (λ q. z (fitted .counted ∙ q)) in
         record { text = fitted; state = rw (there, ← words-are) (l .state); taken = rw (there, ← t .is, whole, same) }
 
 -- no record, or a cut one
-module _ (s : State) (number : ℕ) (bytes text w w′ : List ℕ) (r : Record) (t : Taken r bytes w w′) (said : Said) (e : said ≡ record { state = s; taken = 0; length = 0 }) where
-  none-said : lineAt s number bytes (length text) ≡ [] → Answers s number bytes text text said
+module _ (s : State) (number : ℕ) (bytes text w w′ : List ℕ) (r : Record) (t : TakeRecordSays r bytes w w′) (said : Said) (e : said ≡ record { state = s; taken = 0; length = 0 }) where
+  none-said : lineAt s number bytes (length text) ≡ [] → AnswerSays s number bytes text text said
   none-said is = rw e (record { text = rw is (none-yet text); state = rw is; taken = rw is })
 
-  pub end-said : r ≡ End → Answers s number bytes text text said
+  pub end-said : r ≡ End → AnswerSays s number bytes text text said
   end-said q = none-said (line-at s number bytes (length text) End (sym q ∙ t .is))
 
-  pub cut-said : r ≡ Cut → Answers s number bytes text text said
+  pub cut-said : r ≡ Cut → AnswerSays s number bytes text text said
   cut-said q = none-said (line-at s number bytes (length text) Cut (sym q ∙ t .is))
 
 -- what a caller learns of the sizes
-module _ (s : State) (number : ℕ) (bytes before after : List ℕ) (said : Said) (a : Answers s number bytes before after said) where
+module _ (s : State) (number : ℕ) (bytes before after : List ℕ) (said : Said) (a : AnswerSays s number bytes before after said) where
   pub said-within : said .length ≤ length before
   unfolding lineAt
   said-within = rw (a .text .counted) (line-within (recordOf bytes) _ (length before))
@@ -124,14 +125,14 @@ rest-long : (l : List ℕ) (at : ℕ) → length (take (length l - at) (drop at 
 rest-long l at = rw (length-take, length-drop) (omega arith)
 
 pub taken-rest : (s : State) (number : ℕ) (bytes : List ℕ) (at : ℕ) (before after : List ℕ) (said : Said)
-    → Answers s number (take (length bytes - at) (drop at bytes)) before after said → at ≤ length bytes → at + said .taken ≤ length bytes
+    → AnswerSays s number (take (length bytes - at) (drop at bytes)) before after said → at ≤ length bytes → at + said .taken ≤ length bytes
 taken-rest s number bytes at before after said a h =
     let n = rest-long bytes at in
     let k = taken-within s number (take (length bytes - at) (drop at bytes)) before after said a in
     omega arith
 
 pub said-rest : (s : State) (number : ℕ) (bytes text : List ℕ) (at : ℕ) (after : List ℕ) (said : Said)
-    → Answers s number bytes (take (length text - at) (drop at text)) after said → at ≤ length text → at + said .length ≤ length text
+    → AnswerSays s number bytes (take (length text - at) (drop at text)) after said → at ≤ length text → at + said .length ≤ length text
 said-rest s number bytes text at after said a h =
     let n = rest-long text at in
     let k = said-within s number bytes (take (length text - at) (drop at text)) after said a in

@@ -5,10 +5,11 @@ use Prim.Native.Nat.{ℕ}
 use lib.ListN.{length}
 use Rattle.words.specs.Buffers.{Wrote}
 use Rattle.state.specs.declared.State.{State}
+use Rattle.services.specs.Answers.{longest}
 use Rattle.sensor.specs.Requests.{requestOf}
 use Rattle.dialogue.specs.Lines.{fitting}
 use Rattle.dialogue.specs.Talks.{lineFor}
 
 pub record Replied (s : State) (number : ℕ) (ws before after : List ℕ) (next : State) (n : ℕ) : Type 0 where
-  pub state : next ≡ requestOf s ws 5 .reply .state
+  pub state : next ≡ requestOf s ws longest .reply .state
   pub text : Wrote (fitting (lineFor s number ws) (length before)) before after n

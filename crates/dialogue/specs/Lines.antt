@@ -1,11 +1,11 @@
--- Document 01, the program: "Each record's line has running number from 1, refusal (0 for none), word count, both decimal, then the
--- words as four capital hex digits, with single spaces between."
+-- Document 01, the program: the line of a record, in ASCII. The running number, the number for no and how many words there are, in
+-- decimal; then each word in hex.
 use mathlib.Core.List.{List, [], _∷_, _++_}
 use Prim.Native.Nat.{ℕ, zero, suc, _+_, _/_, _%_}
 use lib.Dec.{leb, ltb, eqb}
 use lib.ListN.{length, getD}
 use Rattle.words.specs.Choice.{if_then_else_}
-use Rattle.words.specs.Buffers.{inTurn}
+use Rattle.words.specs.Buffers.{Wrote, inTurn}
 
 -- the character of a digit, 0 to 9 and A to F
 abbrev pub glyph : ℕ → ℕ
@@ -30,15 +30,23 @@ decimal n = stripped (digits 10 20 n)
 unfoldable pub spacedHex : ℕ → List ℕ
 spacedHex w = 32 ∷ digits 16 4 w
 
+-- the first n words
+abbrev pub hexes : List ℕ → ℕ → List ℕ
+hexes ws n = inTurn (λ k. spacedHex (getD ws k 0)) n
+
 -- a line, with its end
 unfoldable pub lineOf : ℕ → ℕ → List ℕ → List ℕ
 lineOf nr refusal ws =
     decimal nr
     ++ (32 ∷ decimal refusal)
     ++ (32 ∷ decimal (length ws))
-    ++ inTurn (λ k. spacedHex (getD ws k 0)) (length ws)
+    ++ hexes ws (length ws)
     ++ (10 ∷ [])
 
 -- the line where the buffer has room for it, else nothing
 unfoldable pub fitting : List ℕ → ℕ → List ℕ
 fitting line room = if leb (length line) room then line else []
+
+-- what is promised of `write_line`
+abbrev pub WriteLineSays : ℕ → ℕ → List ℕ → List ℕ → List ℕ → ℕ → Type 0
+WriteLineSays nr refusal ws before after r = Wrote (fitting (lineOf nr refusal ws) (length before)) before after r

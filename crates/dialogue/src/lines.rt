@@ -3,9 +3,10 @@ ghost use mathlib.Core.Path.{_≡_};
 ghost use Prim.Native.Nat.{_+_, _<_, _≤_};
 ghost use mathlib.Core.List.{[], _∷_};
 ghost use lib.Dec.{leb};
-ghost use lib.ListN.{length, getD, drop};
-ghost use Rattle.words.specs.Buffers.{Wrote, Put, inTurn};
-ghost use Rattle.dialogue.specs.Lines.{glyph as Lines·glyph, digits as Lines·digits, stripped, decimal, spacedHex, lineOf, fitting};
+ghost use lib.ListN.{length, drop};
+ghost use Rattle.words.specs.Buffers.{Put};
+ghost use Rattle.dialogue.specs.Lines.{glyph as Lines·glyph, digits as Lines·digits, stripped, decimal, spacedHex, hexes};
+ghost use Rattle.dialogue.specs.Lines.{lineOf, WriteLineSays};
 
 // The character of a digit.
 fn glyph(d: u64) -> u8
@@ -117,8 +118,8 @@ fn put_hex(out: &mut [u8], at: usize, w: u16) -> usize
 
 // The words, each behind a space.
 fn put_words(out: &mut [u8], at: usize, words: &[u16]) -> usize
-    requires { ⌜ at + length (inTurn (λ k. spacedHex (getD (now words) k 0)) (length (now words))) ≤ length (now out) ⌝ }
-    ensures { λ r. ⌜ Put (inTurn (λ k. spacedHex (getD (now (words .entry)) k 0)) (length (now (words .entry)))) (now (out .entry)) at (now (out .exit)) r ⌝ }
+    requires { ⌜ at + length (hexes (now words) (length (now words))) ≤ length (now out) ⌝ }
+    ensures { λ r. ⌜ Put (hexes (now (words .entry)) (length (now (words .entry)))) (now (out .entry)) at (now (out .exit)) r ⌝ }
 {
     let mut to = at;
     let mut k: usize = 0;
@@ -131,7 +132,7 @@ fn put_words(out: &mut [u8], at: usize, words: &[u16]) -> usize
 
 // The line of a record over the front of the buffer, and its length; nothing and 0 where it has no room.
 pub fn write_line(nr: u64, refusal: u16, words: &[u16], out: &mut [u8]) -> usize
-    ensures { λ r. ⌜ Wrote (fitting (lineOf nr refusal (now (words .entry))) (length (now (out .entry)))) (now (out .entry)) (now (out .exit)) r ⌝ }
+    ensures { λ r. ⌜ WriteLineSays nr refusal (now (words .entry)) (now (out .entry)) (now (out .exit)) r ⌝ }
 {
     if !fits(nr, refusal, words, out.len()) {
         return 0;

@@ -3,7 +3,7 @@ ghost use mathlib.Core.Path.{_≡_};
 ghost use Prim.Native.Nat.{_+_, _*_, _<_, _≤_};
 ghost use lib.ListN.{length, drop};
 ghost use Rattle.words.specs.Buffers.{over, inTurn};
-ghost use Rattle.dialogue.specs.Records.{recordWord, Taken};
+ghost use Rattle.dialogue.specs.Records.{recordWord, TakeRecordSays};
 use crate::Record;
 
 // The count that a byte holds.
@@ -34,7 +34,7 @@ fn take_words(bytes: &[u8], n: usize, words: &mut [u16])
 
 // The record at the front of the bytes, and its words over the front of the array, which has room for those of every record.
 pub fn take_record(bytes: &[u8], words: &mut [u16; 255]) -> Record
-    ensures { λ r. ⌜ Taken r (now (bytes .entry)) (now (words .entry)) (now (words .exit)) ⌝ }
+    ensures { λ r. ⌜ TakeRecordSays r (now (bytes .entry)) (now (words .entry)) (now (words .exit)) ⌝ }
 {
     if bytes.len() == 0 {
         return Record::End;

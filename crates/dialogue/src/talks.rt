@@ -1,15 +1,13 @@
 // One record of a talk, answered with its line.
 ghost use mathlib.Core.Path.{_≡_};
-ghost use Rattle.words.specs.Buffers.{Wrote};
-ghost use lib.ListN.{length};
-ghost use Rattle.dialogue.specs.Lines.{fitting};
-ghost use Rattle.dialogue.specs.Talks.{lineFor, Answers};
+ghost use Rattle.dialogue.specs.Talks.{AnswerSays};
 ghost use Rattle.dialogue.specs.Asked.{Replied};
 use crate::Record;
 use crate::Said;
 use crate::lines::write_line;
 use crate::records::count;
 use crate::records::take_record;
+use services::LONGEST;
 use state::State;
 
 // The next state, and the length of the line.
@@ -22,7 +20,7 @@ struct Line {
 fn answer_words(state: State, number: u64, words: &[u16], text: &mut [u8]) -> Line
     ensures { λ r. ⌜ Replied state number (now (words .entry)) (now (text .entry)) (now (text .exit)) (r .state) (r .length) ⌝ }
 {
-    let mut out = [0u16; 5];
+    let mut out = [0u16; LONGEST];
     let reply = sensor::request(state, words, &mut out);
     let count = reply.count;
     let length = write_line(number, reply.refusal, &out[..count], text);
@@ -47,7 +45,7 @@ fn nothing(state: State) -> Said
 // The record at the front of the bytes answered, its line over the front of the text. Where there is no whole record, or the text
 // has no room for its line, nothing is done.
 pub fn answer(state: State, number: u64, bytes: &[u8], text: &mut [u8]) -> Said
-    ensures { λ r. ⌜ Answers state number (now (bytes .entry)) (now (text .entry)) (now (text .exit)) r ⌝ }
+    ensures { λ r. ⌜ AnswerSays state number (now (bytes .entry)) (now (text .entry)) (now (text .exit)) r ⌝ }
 {
     let mut words = [0u16; 255];
     let record = take_record(bytes, &mut words);

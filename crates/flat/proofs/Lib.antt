@@ -1,1 +1,1 @@
-pub mod SendingLaws
+pub mod SentLaws

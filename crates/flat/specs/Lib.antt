@@ -1,3 +1,3 @@
 -- To be read in this order.
-pub mod Sending
+pub mod Plans
 pub mod Sent

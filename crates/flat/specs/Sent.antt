@@ -2,9 +2,19 @@
 use mathlib.Core.Path.{_≡_}
 use mathlib.Core.List.{List}
 use Prim.Native.Nat.{ℕ}
+use lib.ListN.{length}
 use Rattle.words.specs.Buffers.{over}
+use Rattle.state.specs.Fresh.{measuring}
 use Rattle.state.specs.Replies.{Result}
+use Rattle.profile.specs.Profiles.{Scan}
+use Rattle.profile.specs.Revolutions.{revolutionOf}
+use Rattle.flat.specs.Plans.{planOf}
 
 pub record Sent (count : ℕ) (before after : List ℕ) (x : Result) : Type 0 where
   pub counted : count ≡ x .reply .count
   pub buffer : after ≡ over (x .written) before
+
+-- the contract of `slackjib_profile`: a revolution of a sensor that measures with the plan of these words
+abbrev pub ProfileSays : List ℕ → ℕ → ℕ → ℕ → Scan → List ℕ → List ℕ → ℕ → Type 0
+ProfileSays plan step running mask g before after count =
+    Sent count before after (revolutionOf (measuring (planOf plan) step running mask) g (length before))

@@ -1,10 +1,9 @@
-// The writer by plain numbers, for programs in C or Rust.
+// The writer of profiles for programs in C or Rust, which have no state with enums to hand over.
 ghost use mathlib.Core.Path.{_≡_};
-ghost use lib.ListN.{length};
-ghost use Rattle.profile.specs.Asked.{given};
-ghost use Rattle.profile.specs.Revolutions.{revolutionOf};
-ghost use Rattle.flat.specs.Sending.{entryOf, planOf, sending};
-ghost use Rattle.flat.specs.Sent.{Sent};
+ghost use Rattle.state.specs.Fresh.{measuring as Fresh·measuring};
+ghost use Rattle.profile.specs.Profiles.{scan};
+ghost use Rattle.flat.specs.Plans.{entryOf, planOf};
+ghost use Rattle.flat.specs.Sent.{ProfileSays};
 use plan::Plan;
 use plan::Sector;
 use state::Job;
@@ -44,17 +43,12 @@ pub fn plan_of(plan: &[u16]) -> Plan
 }
 
 // A sensor that measures with that plan, with a job of one profile.
-fn sending(plan: &[u16], step: u16, running: u16, mask: u16) -> State
-    ensures { λ r. ⌜ r ≡ sending (now (plan .entry)) step running mask ⌝ }
+fn measuring(plan: &[u16], step: Angle, running: u16, mask: u16) -> State
+    ensures { λ r. ⌜ r ≡ Fresh·measuring (planOf (now (plan .entry))) (step .0) running mask ⌝ }
 {
     let both = plan_of(plan);
     let switched_on = state::fresh();
-    let configured = state::with_config(
-        switched_on,
-        switched_on.id,
-        switched_on.speed,
-        Angle(step),
-    );
+    let configured = state::with_config(switched_on, switched_on.id, switched_on.speed, step);
     let planned = state::with_plans(configured, both, both);
     let job = Job::Counted {
         left: 1,
@@ -68,19 +62,18 @@ fn sending(plan: &[u16], step: u16, running: u16, mask: u16) -> State
 #[no_mangle]
 pub extern "C" fn slackjib_profile(
     plan: &[u16],
-    step: u16,
+    step: Angle,
     running: u16,
     mask: u16,
-    start: u16,
+    start: Time,
     distances: &[u16],
     echoes: &[u16],
     out: &mut [u16],
 ) -> usize
-    ensures { λ r. ⌜ Sent r (now (out .entry)) (now (out .exit))
-        (revolutionOf (sending (now (plan .entry)) step running mask) (given start (now (distances .entry)) (now (echoes .entry)))
-        (length (now (out .entry)))) ⌝ }
+    ensures { λ r. ⌜ ProfileSays (now (plan .entry)) (step .0) running mask (scan (start .0) (now (distances .entry)) (now (echoes .entry)))
+        (now (out .entry)) (now (out .exit)) r ⌝ }
 {
-    let state = sending(plan, step, running, mask);
-    let reply = profile::revolution(state, Time(start), distances, echoes, out);
+    let state = measuring(plan, step, running, mask);
+    let reply = profile::revolution(state, start, distances, echoes, out);
     reply.count
 }

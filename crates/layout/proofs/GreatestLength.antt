@@ -8,6 +8,7 @@ use lib.ListN.{length}
 use Rattle.words.specs.Choice.{if_then_else_}
 use Rattle.words.specs.Bits.{bit}
 use Rattle.words.specs.Lists.{count}
+use Rattle.layout.specs.Bits as bits
 use Rattle.layout.specs.Masks.{pointWidth}
 use Rattle.layout.specs.Lengths.{profileLength, Greatest}
 
@@ -27,8 +28,8 @@ two-most false = omega arith
 pub greatest : Greatest
 unfolding profileLength
 greatest mask sectors points s p =
-    let head = count-most (bit mask) (0 ∷ 1 ∷ 2 ∷ []) in
-    let block : sectors * count (bit mask) (3 ∷ 4 ∷ 5 ∷ 6 ∷ 7 ∷ 11 ∷ 12 ∷ []) ≤ 8 * 7 = mul-le-mul s (count-most (bit mask) (3 ∷ 4 ∷ 5 ∷ 6 ∷ 7 ∷ 11 ∷ 12 ∷ [])) in
-    let body : points * pointWidth mask ≤ 2160 * 3 = mul-le-mul p (count-most (bit mask) (8 ∷ 9 ∷ 10 ∷ [])) in
-    let tail = two-most (bit mask 13) in
+    let head = count-most (bit mask) bits.ofHead in
+    let block : sectors * count (bit mask) bits.ofSector ≤ 8 * 7 = mul-le-mul s (count-most (bit mask) bits.ofSector) in
+    let body : points * pointWidth mask ≤ 2160 * 3 = mul-le-mul p (count-most (bit mask) bits.ofPoint) in
+    let tail = two-most (bit mask bits.senstat) in
     omega arith

@@ -1,8 +1,8 @@
--- The layout of fields that fit their mask is as long as document 01 says; and `profile_length`, which adds it up.
+-- The layout of fields that fit their mask is as long as the formula says; and `profile_length`, which adds it up.
 use mathlib.Core.Path.{_≡_, refl}
 use mathlib.Core.Bool.{Bool, true, false}
-use mathlib.Core.List.{List, [], _∷_}
-use Prim.Native.Nat.{ℕ, _+_, _*_, _/_, _%_}
+use mathlib.Core.List.{List}
+use Prim.Native.Nat.{ℕ, _+_, _*_}
 use native.Mathlib.Nat.{zero-mul, suc-mul, add-mul}
 use native.Mathlib.Omega.{arith}
 use lib.ListN.{length, length-append}
@@ -12,10 +12,10 @@ use Rattle.words.specs.Choice.{if_then_else_}
 use Rattle.words.specs.Bits.{bit}
 use Rattle.words.specs.Lists.{Each, none, this, count, total}
 use Rattle.words.specs.Words.{wordsOf, numberOf, Shaped, laidAll}
-use Rattle.words.proofs.BitLaws.{bit-number}
+use Rattle.layout.specs.Bits as bits
 use Rattle.layout.specs.Masks.{pointWidth}
 use Rattle.layout.specs.Fields.{SectorFields}
-use Rattle.layout.specs.Layout.{layoutSector, SectorFits}
+use Rattle.layout.specs.Layout.{headLength, layoutSector, SectorFits}
 use Rattle.layout.specs.Lengths.{profileLength, LayoutLength}
 
 -- a word that is there exactly where it is selected
@@ -34,18 +34,18 @@ all-length put points fixed width h (this {x = f} {xs = fs} p e) =
     simp (length-append, suc-mul, add-mul) (omega (arith, h f p, all-length put points fixed width h e))
 
 sector-length : (mask : ℕ) (s : SectorFields) → SectorFits mask s
-    → length (layoutSector s) ≡ count (bit mask) (3 ∷ 4 ∷ 5 ∷ 6 ∷ 7 ∷ 11 ∷ 12 ∷ []) + numberOf (s .points) * pointWidth mask
+    → length (layoutSector s) ≡ count (bit mask) bits.ofSector + numberOf (s .points) * pointWidth mask
 sector-length mask s h =
     simp length-append (omega (
       arith,
       h .body,
-      word-length (bit mask 3) (s .number) (h .number),
-      word-length (bit mask 4) (s .step) (h .step),
-      word-length (bit mask 5) (s .points) (h .points),
-      word-length (bit mask 6) (s .tstart) (h .tstart),
-      word-length (bit mask 7) (s .startdir) (h .startdir),
-      word-length (bit mask 11) (s .tend) (h .tend),
-      word-length (bit mask 12) (s .enddir) (h .enddir),
+      word-length (bit mask bits.number) (s .number) (h .number),
+      word-length (bit mask bits.step) (s .step) (h .step),
+      word-length (bit mask bits.points) (s .points) (h .points),
+      word-length (bit mask bits.tstart) (s .tstart) (h .tstart),
+      word-length (bit mask bits.startdir) (s .startdir) (h .startdir),
+      word-length (bit mask bits.tend) (s .tend) (h .tend),
+      word-length (bit mask bits.enddir) (s .enddir) (h .enddir),
     ))
 
 twice : (on : Bool) → (if on then 2 else 0) ≡ (if on then 1 else 0) + (if on then 1 else 0)
@@ -58,26 +58,29 @@ layout-length f h =
     let m = f .mask in
     simp length-append (omega (
       arith,
-      twice (bit m 13),
-      word-length (bit m 0) (f .sent) (h .sent),
-      word-length (bit m 1) (f .counter) (h .counter),
-      word-length (bit m 2) (f .layer) (h .layer),
+      twice (bit m bits.senstat),
+      word-length (bit m bits.sent) (f .sent) (h .sent),
+      word-length (bit m bits.counter) (f .counter) (h .counter),
+      word-length (bit m bits.layer) (f .layer) (h .layer),
       all-length layoutSector (λ s. numberOf (s .points)) _ (pointWidth m) (sector-length m) (h .sectors),
-      word-length (bit m 13) (f .high) (h .high),
-      word-length (bit m 13) (f .low) (h .low),
+      word-length (bit m bits.senstat) (f .high) (h .high),
+      word-length (bit m bits.senstat) (f .low) (h .low),
     ))
+
+-- one where the bit is set, else none
+abbrev oneIf : ℕ → ℕ → ℕ
+oneIf mask k = if bit mask k then 1 else 0
 
 -- `profile_length`
 pub length-is : (m s p a b c d e f g h i j k : ℕ)
-    → a ≡ m / 1 % 2 → b ≡ m / 2 % 2 → c ≡ m / 4 % 2
-    → d ≡ m / 8 % 2 → e ≡ m / 16 % 2 → f ≡ m / 32 % 2 → g ≡ m / 64 % 2 → h ≡ m / 128 % 2 → i ≡ m / 2048 % 2 → j ≡ m / 4096 % 2
-    → k ≡ m / 8192 % 2
+    → a ≡ oneIf m bits.sent → b ≡ oneIf m bits.counter → c ≡ oneIf m bits.layer
+    → d ≡ oneIf m bits.number → e ≡ oneIf m bits.step → f ≡ oneIf m bits.points → g ≡ oneIf m bits.tstart → h ≡ oneIf m bits.startdir
+    → i ≡ oneIf m bits.tend → j ≡ oneIf m bits.enddir → k ≡ oneIf m bits.senstat
     → (n : ℕ) → n ≡ s * (d + e + f + g + h + (i + j)) → (w q : ℕ) → w ≡ pointWidth m → q ≡ p * w
-    → 3 + (a + b + c) + n + q + 2 * k ≡ profileLength m s p
+    → headLength + (a + b + c) + n + q + 2 * k ≡ profileLength m s p
 unfolding profileLength
 length-is m s p a b c d e f g h i j k ea eb ec ed ee ef eg eh ei ej ek n en w q ew eq =
-    let all : d + e + f + g + h + (i + j) ≡ count (bit m) (3 ∷ 4 ∷ 5 ∷ 6 ∷ 7 ∷ 11 ∷ 12 ∷ []) =
-    omega (arith, bit-number m 3, bit-number m 4, bit-number m 5, bit-number m 6, bit-number m 7, bit-number m 11, bit-number m 12) in
-    let blocks : n ≡ s * count (bit m) (3 ∷ 4 ∷ 5 ∷ 6 ∷ 7 ∷ 11 ∷ 12 ∷ []) = rw all at en in
+    let all : d + e + f + g + h + (i + j) ≡ count (bit m) bits.ofSector = rw (ed, ee, ef, eg, eh, ei, ej) (omega arith) in
+    let blocks : n ≡ s * count (bit m) bits.ofSector = rw all at en in
     let body : q ≡ p * pointWidth m = rw ew at eq in
-    omega (arith, bit-number m 0, bit-number m 1, bit-number m 2, bit-number m 13, twice (bit m 13))
+    rw (ea, eb, ec, ek, blocks, body) (omega (arith, twice (bit m bits.senstat)))

@@ -1,2 +1,3 @@
+pub mod MaskTests
 pub mod LayoutLengths
 pub mod GreatestLength

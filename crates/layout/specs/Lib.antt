@@ -1,4 +1,5 @@
 -- To be read in this order.
+pub mod Bits
 pub mod Masks
 pub mod Fields
 pub mod Layout

@@ -1,23 +1,27 @@
 -- Document 01, 'State and ranges', GET_PROFILE and 'Numbers for no' 14: the mask of a profile.
 use mathlib.Core.Bool.{Bool, not, _&&_}
-use mathlib.Core.List.{[], _∷_}
 use Prim.Native.Nat.{ℕ, _%_}
 use lib.Dec.{eqb}
 use Rattle.words.specs.Bits.{bit}
-use Rattle.words.specs.Lists.{count}
+use Rattle.words.specs.Lists.{every, count}
+use Rattle.layout.specs.Bits as bits
 
--- "Its mask is not 0 and has bits 14 and 15 clear."
+-- not 0, and no reserved bit set
 unfoldable pub maskOk : ℕ → Bool
-maskOk mask = not (eqb mask 0) && not (bit mask 14) && not (bit mask 15)
+maskOk mask = not (eqb mask 0) && every (λ k. not (bit mask k)) bits.reserved
 
--- "bits 14 and 15 are cleared", the two highest of a word
+-- past the highest bit that is not reserved; `MASK_LIMIT` in the code
+abbrev pub maskLimit : ℕ
+maskLimit = 16384
+
+-- the two highest bits of a word, which are reserved, cleared
 abbrev pub cleared : ℕ → ℕ
-cleared mask = mask % 16384
+cleared mask = mask % maskLimit
 
--- the words of a point: bits set in 8 to 10
+-- the words of a point
 abbrev pub pointWidth : ℕ → ℕ
-pointWidth mask = count (bit mask) (8 ∷ 9 ∷ 10 ∷ [])
+pointWidth mask = count (bit mask) bits.ofPoint
 
--- "a bit of 8 to 10 set, bit 5 clear": points without their number, which the reader cannot do with
+-- points without their number, which the reader cannot do with
 abbrev pub uncounted : ℕ → Bool
-uncounted mask = not (eqb (pointWidth mask) 0) && not (bit mask 5)
+uncounted mask = not (eqb (pointWidth mask) 0) && not (bit mask bits.points)

@@ -1,21 +1,22 @@
--- Demand 3, said of plans; and when the call answers 0.
+-- Demand 3, of the normal plan and then of the plan that the call hands back; and when the call answers 0.
 use mathlib.Core.Path.{_≡_, refl, sym, ap, _∙_}
+use mathlib.Core.Logic.{_↔_}
 use mathlib.Core.Bool.{Bool, true, false, not, _&&_}
 use mathlib.Core.List.{List, _++_}
 use Prim.Native.Nat.{ℕ, zero, suc, _+_, _-_}
 use native.Mathlib.Omega.{arith}
 use lib.Dec.{T, eqb}
 use lib.ListN.{length, replicate, length-append, length-replicate}
-use borrow.Author.Tests.{ne-eqb}
+use borrow.Author.Tests.{eq-eqb, ne-eqb}
 use Rattle.words.specs.Choice.{if_then_else_}
 use Rattle.words.specs.Lists.{some, every}
 use Rattle.words.proofs.Tests.{and-l, and-r, is-true}
 use Rattle.plan.specs.declared.Sector.{Sector}
 use Rattle.plan.specs.declared.Plan.{Plan}
-use Rattle.plan.specs.Sectors.{isStep, unused, filled, active, activeOf}
-use Rattle.plan.specs.Validity.{isFunction, sectorOk, increases, multiples, ValidPlan}
-use Rattle.normal.specs.NormalForm.{normal, normalPlan, planRefusal}
-use Rattle.normal.specs.Demands.{Demand3, AnswersZero}
+use Rattle.plan.specs.Sectors.{isStep, unused, isFunction, filled, active, activeOf}
+use Rattle.plan.specs.Validity.{sectorOk, increases, multiples, ValidPlan}
+use Rattle.normal.specs.NormalForm.{normal, normalPlan, planRefusal, normalisedOf}
+use Rattle.normal.specs.Demands.{NormalStands, planBack, Demand3, AnswersValid}
 use Rattle.plan.proofs.ArcSums.{active-length}
 use Rattle.plan.proofs.Grids.{Divides, divides}
 use Rattle.plan.proofs.FineSectors.{Fine, done, more, fine-of}
@@ -43,8 +44,8 @@ module _ (step : ℕ) (p : Plan) (v : ValidPlan step p) where
         valid = rw normal-active (normal-valid step (activeOf p) (v .valid));
       }
 
-pub demand3 : Demand3
-demand3 step ok p v =
+stands : (step : ℕ) → T (isStep step) → (p : Plan) → ValidPlan step p → NormalStands normalPlan step p
+stands step ok p v =
     record {
       alike =
           λ q w. (
@@ -73,7 +74,7 @@ tests true true false e = absurd (omega arith)
 tests true false c e = absurd (omega arith)
 tests false b c e = absurd (omega arith)
 
-pub answers-zero : AnswersZero
+answers-zero : (step : ℕ) (p : Plan) → length (p .sectors) ≡ 8 → (planRefusal p step ≡ 0) ↔ (T (isStep step) × ValidPlan step p)
 unfolding planRefusal
 answers-zero step p eight = (
   λ e. (
@@ -97,3 +98,24 @@ answers-zero step p eight = (
       rw (a, b, c, d, e)
       ),
 )
+
+pub answers-valid : AnswersValid
+unfolding normalisedOf
+answers-valid step p eight = record { zero = answers-zero step p eight; normal = λ e. rw (eq-eqb (planRefusal p step) 0 e) }
+
+-- the plan that the call hands back is the normal plan
+back-is : (step : ℕ) → T (isStep step) → (p : Plan) → ValidPlan step p → planBack step p ≡ normalPlan p
+back-is step ok p v = let a = answers-valid step p (v .eight) in a .normal (a .zero .1 (ok, v))
+
+pub demand3 : Demand3
+demand3 step ok p v =
+    let s = stands step ok p v in
+    let e = back-is step ok p v in
+    let again : planBack step (normalPlan p) ≡ normalPlan p = back-is step ok (normalPlan p) (s .valid) ∙ s .again in
+    record {
+      alike = λ q w. rw (e, back-is step ok q w) (s .alike q w);
+      valid = rw e (s .valid);
+      runs-so = rw e (s .runs-so);
+      again = rw (e, again);
+      fewest = λ q w r. rw e (s .fewest q w r);
+    }

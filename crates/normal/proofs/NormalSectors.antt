@@ -7,7 +7,9 @@ use native.Mathlib.Omega.{arith}
 use lib.Dec.{T, le→leb}
 use lib.ListN.{length}
 use Rattle.words.specs.Lists.{some, every}
-use Rattle.words.proofs.Tests.{and-both, eq-holds}
+use borrow.Author.Tests.{lt-ltb}
+use Rattle.units.specs.Directions.{circle}
+use Rattle.words.proofs.Tests.{and-both, holds, eq-holds}
 use Rattle.plan.specs.declared.Sector.{Sector}
 use Rattle.plan.specs.Sectors.{stopOf}
 use Rattle.plan.specs.Validity.{sectorOk, increasesFrom, increases, multiples, Valid}
@@ -51,7 +53,7 @@ module _ (step : ℕ) where
     where
       ranges : {low : ℕ} {ss : List Sector} → Fine step low ss → T (every sectorOk ss)
       ranges done = tt
-      ranges (more {s = s} f a g r) = search (and-both, le→leb (stopOf s) 5759 (omega arith), ranges r)
+      ranges (more {s = s} f a g r) = search (and-both, holds (lt-ltb (stopOf s) circle (g .below)), ranges r)
 
       rising : {low : ℕ} {ss : List Sector} → Fine step low ss → T (increases ss)
       rising done = tt

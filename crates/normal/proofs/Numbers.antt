@@ -4,10 +4,12 @@ use mathlib.Core.Bool.{Bool, true, false, not, _&&_, _||_}
 use mathlib.Core.List.{List, [], _∷_}
 use borrow.Author.Tests.{ne-eqb}
 use Rattle.words.specs.Choice.{if_then_else_}
-use Rattle.words.specs.Lists.{some, every, firstOf}
+use Rattle.words.specs.Lists.{some, every}
+use Rattle.words.specs.Numbers.{no, firstOf}
+use Rattle.units.specs.Directions.{onCircle}
 use Rattle.plan.specs.declared.Sector.{Sector}
-use Rattle.plan.specs.Sectors.{isStep, stopOf, activeOf}
-use Rattle.plan.specs.Validity.{isFunction, onCircle, increases, multiples}
+use Rattle.plan.specs.Sectors.{isStep, stopOf, isFunction, activeOf}
+use Rattle.plan.specs.Validity.{increases, multiples}
 use Rattle.normal.specs.NormalForm.{planRefusal, normalisedOf}
 use Rattle.normal.specs.Demands.{RefusalsExactly, RefusalsGiveZeros}
 
@@ -25,7 +27,7 @@ every-both p q (x ∷ l) = rw (every-both p q l) (swap (p x) (q x) (every p l) (
 -- the tests, as the definition has them and as the table has them
 in-order : (step one function circle rise whole : Bool)
     → (if not step then 9 else if not (one && (function && circle) && rise) then 10 else if not whole then 11 else 0)
-    ≡ firstOf 9 (not step ∷ (not one || not function || not circle || not rise) ∷ not whole ∷ [])
+    ≡ firstOf (no 9 (not step) ∷ no 10 (not one || not function || not circle || not rise) ∷ no 11 (not whole) ∷ [])
 in-order false o f c r w = refl
 in-order true false f c r w = refl
 in-order true true false c r w = refl
@@ -37,8 +39,10 @@ in-order true true true true true true = refl
 pub refusals-exactly : RefusalsExactly
 unfolding normalisedOf planRefusal
 refusals-exactly p step =
-    rw (every-both (λ (s : Sector). isFunction (s .function)) (λ (s : Sector). onCircle (stopOf s)) (activeOf p))
-    (in-order (isStep step) (some (activeOf p)) (every (λ (s : Sector). isFunction (s .function)) (activeOf p)) (every (λ (s : Sector). onCircle (stopOf s)) (activeOf p)) (increases (activeOf p)) (multiples step (activeOf p)))
+    let function : Sector → Bool = λ s. isFunction (s .function) in
+    let circle : Sector → Bool = λ s. onCircle (stopOf s) in
+    let ss = activeOf p in
+    rw (every-both function circle ss) (in-order (isStep step) (some ss) (every function ss) (every circle ss) (increases ss) (multiples step ss))
 
 pub refusals-give-zeros : RefusalsGiveZeros
 unfolding normalisedOf

@@ -1,4 +1,5 @@
 -- Document 01, 'Plans and shots' and 'Numbers for no' 9 to 11: the normal plan, and what the call answers.
+use mathlib.Core.Path.{_≡_}
 use mathlib.Core.Bool.{not, _&&_}
 use mathlib.Core.List.{List, [], _∷_}
 use Prim.Native.Nat.{ℕ}
@@ -11,12 +12,12 @@ use Rattle.plan.specs.Sectors.{isStep, filled, activeOf}
 use Rattle.plan.specs.Validity.{sectorOk, increases, multiples}
 use Rattle.normal.specs.declared.Normalised.{Normalised}
 
--- a sector in front of others: joined to the first of them where the functions are equal, "keeping the later stop"
+-- a sector in front of others: joined to the first of them where the functions are equal, so that the later stop is kept
 abbrev pub joined : Sector → List Sector → List Sector
 joined s [] = s ∷ []
 joined s (t ∷ ts) = if eqb (s .function) (t .function) then t ∷ ts else s ∷ t ∷ ts
 
--- "The normal plan joins neighbours of equal function in list order": "First and last are not joined."
+-- neighbours of equal function joined in list order; the last is no neighbour of the first
 abbrev pub normal : List Sector → List Sector
 normal [] = []
 normal (s ∷ ss) = joined s (normal ss)
@@ -24,8 +25,8 @@ normal (s ∷ ss) = joined s (normal ss)
 abbrev pub normalPlan : Plan → Plan
 normalPlan p = filled (normal (activeOf p))
 
--- 9 "step not one of the 23"; 10 "no active sector, or among the active ones a function not 1, 3 or 4, a stop over 5759,
--- or stops that don't increase"; 11 "a stop is no multiple"; 0 for none
+-- 9 for a step that is none; 10 for no active sector, one out of its ranges, or stops that do not increase; 11 for a stop that is no
+-- multiple; 0 for none of these
 unfoldable pub planRefusal : Plan → ℕ → ℕ
 planRefusal p step =
     if not (isStep step) then 9 else
@@ -39,3 +40,7 @@ answered refusal p = record { refusal = refusal; plan = if eqb refusal 0 then p 
 -- what the call answers
 unfoldable pub normalisedOf : Plan → ℕ → Normalised
 normalisedOf p step = answered (planRefusal p step) (normalPlan p)
+
+-- the contract of `normal_plan`
+abbrev pub NormalPlanSays : Plan → ℕ → Normalised → Type 0
+NormalPlanSays p step r = r ≡ normalisedOf p step

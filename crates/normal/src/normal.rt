@@ -2,14 +2,14 @@
 ghost use mathlib.Core.Path.{_≡_};
 ghost use mathlib.Core.List.{[]};
 ghost use Rattle.plan.specs.Sectors.{filled};
-ghost use Rattle.normal.specs.NormalForm.{normalPlan, planRefusal, normalisedOf};
+ghost use Rattle.normal.specs.NormalForm.{normalPlan, planRefusal, NormalPlanSays};
 use crate::Normalised;
 use plan::Plan;
-use plan::Sector;
 use plan::entry_at;
 use plan::is_step;
 use plan::rising;
 use plan::sectors_ok;
+use plan::unused;
 use plan::whole_steps;
 use units::Angle;
 
@@ -18,10 +18,7 @@ fn zeros() -> Plan
     ensures { λ r. ⌜ r ≡ filled [] ⌝ }
 {
     Plan {
-        sectors: [Sector {
-            function: 0,
-            stop: Angle(0),
-        }; 8],
+        sectors: [unused(); 8],
     }
 }
 
@@ -70,7 +67,7 @@ fn plan_refusal(plan: Plan, step: Angle) -> u16
 
 // The normal plan of a plan that is valid for the step; else the number for no.
 pub fn normal_plan(plan: Plan, step: Angle) -> Normalised
-    ensures { λ r. ⌜ r ≡ normalisedOf plan (step .0) ⌝ }
+    ensures { λ r. ⌜ NormalPlanSays plan (step .0) r ⌝ }
 {
     let refusal = plan_refusal(plan, step);
     if refusal == 0 {

@@ -7,8 +7,8 @@ use native.Mathlib.Omega.{arith}
 use lib.Dec.{eqb}
 use lib.ListN.{length, getD, drop, drop-of-length-le}
 use Rattle.units.specs.declared.Angle.{Angle}
-use Rattle.units.specs.Directions.{stepAfter, shotsTo}
-use Rattle.units.proofs.Directions.{few}
+use Rattle.units.specs.Directions.{circle, stepAfter, shotsTo}
+use Rattle.units.proofs.ShotCounts.{few}
 use Rattle.words.specs.Choice.{if_then_else_}
 use Rattle.words.proofs.Arrays.{from-here}
 use Rattle.plan.specs.declared.Sector.{Sector}
@@ -33,7 +33,7 @@ arcs-length step before shot [] = refl
 arcs-length step before shot (s ∷ ss) = ap suc (arcs-length step (stopOf s) (shot + shotsOf step before s) ss)
 
 -- no arc has more shots than there are directions
-pub arc-few : (step before shot : ℕ) (ss : List Sector) (k : ℕ) → getD (arcsFrom step before shot ss) k noArc .shots ≤ 5760
+pub arc-few : (step before shot : ℕ) (ss : List Sector) (k : ℕ) → getD (arcsFrom step before shot ss) k noArc .shots ≤ circle
 arc-few step before shot [] k = omega arith
 arc-few step before shot (s ∷ ss) zero = few step (stepAfter step before) (stopOf s)
 arc-few step before shot (s ∷ ss) (suc k) = arc-few step (stopOf s) (shot + shotsOf step before s) ss k
@@ -51,9 +51,9 @@ arc-start l step before place e =
     let z : place - 0 ≡ place = omega arith in
     rw (e, z)
 
--- the shots before a sector, at most 8 times 5760, fit 16 bits
-module _ (i shot k step before stop : ℕ) (h : shot ≤ i * 5760) (e : k ≡ shotsTo step (stepAfter step before) stop) where
-  pub shots-more : shot + k ≤ (i + 1) * 5760
+-- the shots before a sector, at most 8 times circle, fit 16 bits
+module _ (i shot k step before stop : ℕ) (h : shot ≤ i * circle) (e : k ≡ shotsTo step (stepAfter step before) stop) where
+  pub shots-more : shot + k ≤ (i + 1) * circle
   shots-more = omega (arith, few step (stepAfter step before) stop)
 
   pub shots-fit : i < 8 → shot + k < 65536
@@ -84,9 +84,9 @@ module _ (p : Plan) (step k sum : ℕ) where
         let len = arcs-length step (lastStop 0 (activeOf p)) 0 (activeOf p) in
         omega (arith, rw ea at er, rw (from-here (arcs step (activeOf p)) k noArc (omega arith)) at inv)
 
-    pub lit-bound : sum ≤ k * 5760 → sum + r ≤ (k + 1) * 5760
+    pub lit-bound : sum ≤ k * circle → sum + r ≤ (k + 1) * circle
     unfolding arcAt
-    lit-bound h = omega (arith, at-most (isLit (a .function)) (a .shots) 5760 (rw ea (arc-few step _ 0 (activeOf p) k)))
+    lit-bound h = omega (arith, at-most (isLit (a .function)) (a .shots) circle (rw ea (arc-few step _ 0 (activeOf p) k)))
 
-    pub lit-fits : sum ≤ k * 5760 → (n : ℕ) → k < n → n ≤ 8 → sum + r < 65536
+    pub lit-fits : sum ≤ k * circle → (n : ℕ) → k < n → n ≤ 8 → sum + r < 65536
     lit-fits h n l m = omega (arith, lit-bound h)

@@ -5,11 +5,12 @@ use native.Mathlib.Nat.{dvd-of-mod-eq-zero}
 use native.Mathlib.Omega.{arith}
 use lib.Dec.{T, leb→le, eqb→eq}
 use Rattle.words.specs.Lists.{every}
-use Rattle.words.proofs.Tests.{and-l, and-r}
-use Rattle.units.specs.Directions.{isMultiple}
+use borrow.Author.Tests.{ltb-true}
+use Rattle.words.proofs.Tests.{and-l, and-r, is-true}
+use Rattle.units.specs.Directions.{circle, onCircle, isMultiple}
 use Rattle.plan.specs.declared.Sector.{Sector}
-use Rattle.plan.specs.Sectors.{stopOf}
-use Rattle.plan.specs.Validity.{isFunction, onCircle, sectorOk, increasesFrom, increases, multiples, Valid}
+use Rattle.plan.specs.Sectors.{stopOf, isFunction}
+use Rattle.plan.specs.Validity.{sectorOk, increasesFrom, increases, multiples, Valid}
 use Rattle.plan.specs.Shots.{lastStop}
 use Rattle.plan.proofs.Grids.{Grid}
 
@@ -23,7 +24,7 @@ module _ (step : ℕ) where
   head-grid s ss k m =
       let a : T (onCircle (stopOf s)) = search (and-l, and-r) in
       let e : T (isMultiple step (stopOf s)) = search (and-l, and-r) in
-      record { whole = dvd-of-mod-eq-zero step (eqb→eq (stopOf s % step) 0 e); below = omega (arith, leb→le (stopOf s) 5759 a) }
+      record { whole = dvd-of-mod-eq-zero step (eqb→eq (stopOf s % step) 0 e); below = ltb-true (stopOf s) circle (is-true a) }
 
   fine-after : (b : ℕ) (ss : List Sector) → T (every sectorOk ss) → T (increasesFrom b ss) → T (multiples step ss) → Fine step (suc b) ss
   fine-after b [] k h m = done

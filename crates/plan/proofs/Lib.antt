@@ -8,6 +8,7 @@ pub mod PlanRows
 pub mod EntrySet
 pub mod RangeValid
 -- The functions
+pub mod RangeTests
 pub mod Walk
 pub mod ArcSums
 pub mod Answers

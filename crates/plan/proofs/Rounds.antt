@@ -11,7 +11,7 @@ use borrow.Author.Tests.{le-leb, lt-leb, leb-false}
 use Rattle.words.specs.Choice.{if_then_else_}
 use Rattle.words.specs.Lists.{Each, none}
 use Rattle.words.proofs.Each.{each-append, each-from, each-at, each-map}
-use Rattle.units.specs.Directions.{stepAfter, revolutionShots}
+use Rattle.units.specs.Directions.{circle, stepAfter, revolutionShots}
 use Rattle.plan.specs.declared.Sector.{Sector}
 use Rattle.plan.specs.Sectors.{unused, stopOf, activeOf}
 use Rattle.plan.specs.Validity.{Valid}
@@ -57,8 +57,8 @@ module _ (step : ℕ) (v : Divides step) where
   reach i n h = (rw suc-mul (omega arith), mul-le-mul-right step h)
 
   -- the shots of a sector lie between the stop before it and its own
-  swept-between : (P : Shot → Type 0) (b : ℕ) (s : Sector) → b < 5760
-      → ((d : ℕ) (far : ℕ) → step ≤ far → far ≤ shotsOf step b s * step → d ≡ (b + far) % 5760 → P (record { direction = d; function = s .function }))
+  swept-between : (P : Shot → Type 0) (b : ℕ) (s : Sector) → b < circle
+      → ((d : ℕ) (far : ℕ) → step ≤ far → far ≤ shotsOf step b s * step → d ≡ (b + far) % circle → P (record { direction = d; function = s .function }))
       → Each P (swept step b s)
   swept-between P b s l h =
       each-from P noShot (swept step b s)
@@ -66,7 +66,7 @@ module _ (step : ℕ) (v : Divides step) where
       let n = shotsOf step b s in
       let j : i < n = rw (shots-length step n (stepAfter step b) (s .function)) at k in
       let w = reach i n j in
-      let e : (stepAfter step b + i * step) % 5760 ≡ (b + suc i * step) % 5760 = rw suc-mul (omega arith) in
+      let e : (stepAfter step b + i * step) % circle ≡ (b + suc i * step) % circle = rw suc-mul (omega arith) in
       rw (shot-at step n i (stepAfter step b) (s .function) (omega arith) j) (h _ (suc i * step) (w .0) (w .1) e)
       ))
 
@@ -93,7 +93,7 @@ module _ (step : ℕ) (v : Divides step) where
       last : ℕ
       last = lastStop (stopOf s) ss
 
-      go : (d far : ℕ) → step ≤ far → far ≤ shotsOf step last s * step → d ≡ (last + far) % 5760 → (b : Bool) → leb d (stopOf s) ≡ b
+      go : (d far : ℕ) → step ≤ far → far ≤ shotsOf step last s * step → d ≡ (last + far) % circle → (b : Bool) → leb d (stopOf s) ≡ b
           → s .function ≡ (if b then s .function else towards d (s .function) ss)
       go d far w k e true q = refl
       go d far w k e false q =
@@ -113,9 +113,9 @@ module _ (step : ℕ) (v : Divides step) where
       → endOf step (getD (arcsFrom step b k ss) place noArc) ≡ stopOf (getD ss place unused)
   arc-ends b k place g done l = absurd (omega arith)
   arc-ends b k zero g (more {s = s} f a h r) l =
-      let m = (stopOf s + 5760 - stepAfter step b) % 5760 / step in
+      let m = (stopOf s + circle - stepAfter step b) % circle / step in
       let e : suc m - 1 ≡ m = omega arith in
-      ap (λ (n : ℕ). (stepAfter step b + n * step) % 5760) e ∙ sym (on-is step m (stepAfter step b) (omega arith)) ∙ ends step v g h
+      ap (λ (n : ℕ). (stepAfter step b + n * step) % circle) e ∙ sym (on-is step m (stepAfter step b) (omega arith)) ∙ ends step v g h
   arc-ends b k (suc place) g (more {s = s} f a h r) l = arc-ends (stopOf s) _ place h r (omega arith)
 
   module _ (ss : List Sector) (w : Valid step ss) where
@@ -130,7 +130,7 @@ module _ (step : ℕ) (v : Divides step) where
         let first = stepAfter step (lastStop 0 ss) in
         let n = length (runFrom step (lastStop 0 ss) ss) in
         let h : k < n = omega (arith, long) in
-        let e : (first + k * step) % 5760 ≡ directionOf step k ss = rw (add-mul, one-mul) (omega arith) in
+        let e : (first + k * step) % circle ≡ directionOf step k ss = rw (add-mul, one-mul) (omega arith) in
         sym (List·getD-map dir (run step ss) k noShot)
         ∙ ap (λ (r : List Shot). getD (map dir r) k 0) (run-is step ss)
         ∙ ap (λ (r : List ℕ). getD r k 0) (run-directions grid (fine-of step w))

@@ -7,7 +7,7 @@ use native.Mathlib.Omega.{arith}
 use lib.Dec.{T}
 use lib.ListN.{length, length-append}
 use Rattle.words.specs.Lists.{some}
-use Rattle.units.specs.Directions.{stepAfter, revolutionShots}
+use Rattle.units.specs.Directions.{circle, stepAfter, revolutionShots}
 use Rattle.plan.specs.declared.Sector.{Sector}
 use Rattle.plan.specs.Sectors.{stopOf}
 use Rattle.plan.specs.Validity.{Valid}
@@ -52,7 +52,7 @@ module _ (step : ℕ) (v : Divides step) where
   rest-length g done = omega arith
   rest-length {b} g (more {s = s} {ss = ss} f a k r) = rw run-more (omega (arith, span step v b (stopOf s) g k a, rest-length k r))
 
-  whole-length : {low : ℕ} {ss : List Sector} → T (some ss) → Fine step low ss → length (runFrom step (lastStop 0 ss) ss) * step ≡ 5760
+  whole-length : {low : ℕ} {ss : List Sector} → T (some ss) → Fine step low ss → length (runFrom step (lastStop 0 ss) ss) * step ≡ circle
   whole-length t done = absurd t
   whole-length t (more {s = s} {ss = ss} f a k r) =
       rw run-more (omega (arith, span-around step v (lastStop (stopOf s) ss) (stopOf s) (last-grid step k r) k (last-above step r), rest-length k r))
@@ -60,4 +60,4 @@ module _ (step : ℕ) (v : Divides step) where
   pub run-length : (ss : List Sector) → Valid step ss → length (run step ss) ≡ revolutionShots step
   run-length ss w =
       ap length (run-is step ss)
-      ∙ eq-of-mul-eq-mul-right step (v .positive) _ _ (whole-length (w .at-least-one) (fine-of step w) ∙ sym (div-mul-cancel step (v .circle)))
+      ∙ eq-of-mul-eq-mul-right step (v .positive) _ _ (whole-length (w .at-least-one) (fine-of step w) ∙ sym (div-mul-cancel step (v .around)))

@@ -11,7 +11,7 @@ use borrow.Author.Tests.{eqb-true}
 use lib.Seq.{take-at, drop-at, getD-drop, getD-take}
 use Rattle.words.specs.Choice.{if_then_else_}
 use Rattle.words.specs.Lists.{count, total}
-use Rattle.units.specs.Directions.{stepAfter}
+use Rattle.units.specs.Directions.{circle, stepAfter}
 use Rattle.plan.specs.declared.Sector.{Sector}
 use Rattle.plan.specs.declared.Plan.{Plan}
 use Rattle.plan.specs.declared.Arc.{Arc}
@@ -23,7 +23,7 @@ use Rattle.plan.proofs.ArcSums.{arcs-length}
 use Rattle.plan.proofs.Runs.{shots-length}
 
 -- shot k of a sector lies k steps past its first direction
-pub shot-at : (step n k d f : ℕ) → d < 5760 → k < n → getD (shots step f d n) k noShot ≡ record { direction = (d + k * step) % 5760; function = f }
+pub shot-at : (step n k d f : ℕ) → d < circle → k < n → getD (shots step f d n) k noShot ≡ record { direction = (d + k * step) % circle; function = f }
 shot-at step zero k d f h l = absurd (omega arith)
 shot-at step (suc n) zero d f h l = ap (λ (x : ℕ). record { direction = x; function = f }) (omega arith)
 shot-at step (suc n) (suc k) d f h l =

@@ -35,8 +35,8 @@ module _ (l : List Sector) (i : ℕ) (len : length l ≡ 8) where
   past h = drop-of-length-le l {i = i} (omega arith)
 
   -- past the last entry there is 0/0, and nothing to set
-  pub past-last : 8 ≤ i → unused ≡ getD l i unused
-  past-last h = sym (List·getD-eq-default l unused {n = i} (omega arith))
+  pub past-last : 8 ≤ i → (s : Sector) → s ≡ unused → s ≡ getD l i unused
+  past-last h s e = e ∙ sym (List·getD-eq-default l unused {n = i} (omega arith))
 
   pub no-place : 8 ≤ i → (s : Sector) → _≡_ {A = Plan} (record { sectors = l }) (record { sectors = set l i s })
   no-place h s = ap (λ (x : List Sector). record { sectors = x }) (sym (set-out l i s (omega arith)))

@@ -1,10 +1,10 @@
 -- What is promised of plans, as statements over the definitions above. The proofs stand in proofs/Rounds.antt and Tiling.antt.
 use mathlib.Core.Path.{_≡_}
 use mathlib.Core.List.{List, [], _∷_}
-use Prim.Native.Nat.{ℕ, _+_, _-_, _*_, _%_, _<_}
+use Prim.Native.Nat.{ℕ, _+_, _-_, _<_}
 use lib.Dec.{T, leb, eqb}
 use lib.ListN.{length, getD, take, drop}
-use Rattle.units.specs.Directions.{revolutionShots}
+use Rattle.units.specs.Directions.{stepsPast, revolutionShots}
 use Rattle.words.specs.Choice.{if_then_else_}
 use Rattle.words.specs.Lists.{count, total}
 use Rattle.plan.specs.declared.Sector.{Sector}
@@ -34,11 +34,11 @@ functionOf direction (s ∷ ss) = towards direction (s .function) (s ∷ ss)
 
 -- the direction of shot k: k + 1 steps after the last active stop
 abbrev pub directionOf : ℕ → ℕ → List Sector → ℕ
-directionOf step k ss = (lastStop 0 ss + (k + 1) * step) % 5760
+directionOf step k ss = stepsPast step (k + 1) (lastStop 0 ss)
 
 -- the direction of an arc's last shot
 abbrev pub endOf : ℕ → Arc → ℕ
-endOf step a = (a .first .0 + (a .shots - 1) * step) % 5760
+endOf step a = stepsPast step (a .shots - 1) (a .first .0)
 
 -- Of a valid plan: one revolution has N shots; shot k has this direction and this function; the arcs' shots add up to N, and the last
 -- shot of each arc is at its last direction, the sector's stop.
@@ -59,7 +59,7 @@ pub record ArcIn (step : ℕ) (p : Plan) (place : ℕ) (a : Arc) : Type 0 where
   pub first-shot : a .shot ≡ total (λ b. b .shots) (take place (arcs step (activeOf p)))
   pub stretch : take (a .shots) (drop (a .shot) (runOf step p)) ≡ sweep step a
   pub shot : (i : ℕ) → i < a .shots
-      → getD (runOf step p) (a .shot + i) noShot ≡ record { direction = (a .first .0 + i * step) % 5760; function = a .function }
+      → getD (runOf step p) (a .shot + i) noShot ≡ record { direction = stepsPast step i (a .first .0); function = a .function }
 
 pub record Tiles (step : ℕ) (p : Plan) : Type 0 where
   pub one-each : length (arcs step (activeOf p)) ≡ actives p

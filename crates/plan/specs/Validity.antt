@@ -1,23 +1,15 @@
 -- Document 01, 'Plans and shots': when active sectors are valid for a step.
 use mathlib.Core.Path.{_≡_}
-use mathlib.Core.Bool.{Bool, true, _&&_, _||_}
+use mathlib.Core.Bool.{Bool, true, _&&_}
 use mathlib.Core.List.{List, [], _∷_}
 use Prim.Native.Nat.{ℕ}
-use lib.Dec.{T, leb, ltb, eqb}
+use lib.Dec.{T, ltb}
 use lib.ListN.{length}
-use Rattle.units.specs.Directions.{isMultiple}
+use Rattle.units.specs.Directions.{onCircle, isMultiple}
 use Rattle.words.specs.Lists.{some, every}
 use Rattle.plan.specs.declared.Sector.{Sector}
 use Rattle.plan.specs.declared.Plan.{Plan}
-use Rattle.plan.specs.Sectors.{stopOf, activeOf}
-
--- "active functions are 1, 3 or 4"
-abbrev pub isFunction : ℕ → Bool
-isFunction f = eqb f 1 || eqb f 3 || eqb f 4
-
--- "active stops are at most 5759"
-abbrev pub onCircle : ℕ → Bool
-onCircle stop = leb stop 5759
+use Rattle.plan.specs.Sectors.{stopOf, isFunction, activeOf}
 
 -- a function and a stop that an active sector may have
 abbrev pub sectorOk : Sector → Bool
@@ -28,12 +20,12 @@ abbrev pub increasesFrom : ℕ → List Sector → Bool
 increasesFrom before [] = true
 increasesFrom before (s ∷ ss) = ltb before (stopOf s) && increasesFrom (stopOf s) ss
 
--- "and strictly increase"
+-- the stops strictly increase
 abbrev pub increases : List Sector → Bool
 increases [] = true
 increases (s ∷ ss) = increasesFrom (stopOf s) ss
 
--- "and each is a multiple of the step"
+-- each stop is a multiple of the step
 abbrev pub multiples : ℕ → List Sector → Bool
 multiples step ss = every (λ s. isMultiple step (stopOf s)) ss
 

@@ -8,6 +8,7 @@ ghost use Rattle.plan.specs.Validity.{sectorOk, increases, multiples};
 ghost use Rattle.plan.specs.Shots.{lastStop};
 use crate::Plan;
 use crate::Sector;
+use crate::ranges::is_function;
 use units::Angle;
 
 // How many sectors are active.
@@ -73,22 +74,15 @@ pub fn rising(plan: Plan) -> bool
     true
 }
 
-// A function of 1, 3 or 4, and a stop of at most 5759.
-pub(crate) fn sector_ok(sector: Sector) -> bool
+// A function and a stop that an active sector may have.
+fn sector_ok(sector: Sector) -> bool
     ensures { λ r. ⌜ r ≡ sectorOk sector ⌝ }
 {
-    let f = sector.function;
-    let stop = sector.stop.0;
-    if f == 1 {
-        return stop <= 5759;
+    if !is_function(sector.function) {
+        return false;
     }
-    if f == 3 {
-        return stop <= 5759;
-    }
-    if f == 4 {
-        return stop <= 5759;
-    }
-    false
+    let stop = sector.stop;
+    units::on_circle(stop)
 }
 
 // Every active sector has a function and a stop that it may have.

@@ -1,9 +1,19 @@
 // The entries of a plan, one at a time.
 ghost use mathlib.Core.Path.{_≡_};
-ghost use Rattle.plan.specs.Sectors.{entryAt, withEntry};
+ghost use Rattle.plan.specs.Sectors.{unused as Sectors·unused, entryAt, withEntry};
 use crate::Plan;
 use crate::Sector;
 use units::Angle;
+
+// An entry that is not used: 0/0.
+pub fn unused() -> Sector
+    ensures { λ r. ⌜ r ≡ Sectors·unused ⌝ }
+{
+    Sector {
+        function: 0,
+        stop: Angle(0),
+    }
+}
 
 // The entry at a place, 0/0 past the last.
 pub fn entry_at(plan: Plan, place: usize) -> Sector
@@ -12,10 +22,7 @@ pub fn entry_at(plan: Plan, place: usize) -> Sector
     if place < 8 {
         return plan.sectors[place];
     }
-    Sector {
-        function: 0,
-        stop: Angle(0),
-    }
+    unused()
 }
 
 // The plan with the entry at a place set; as it was where there is no such place.

@@ -14,8 +14,8 @@ pub use active::whole_steps;
 pub use arcs::arc_at;
 pub use checks::measure_error;
 pub use entries::entry_at;
+pub use entries::unused;
 pub use entries::with_entry;
-pub use ranges::entry_in_range;
 pub use ranges::is_step;
 pub use ranges::plan_in_range;
 

@@ -1,9 +1,8 @@
 // The 23 steps, and the ranges of a plan's entries.
 ghost use mathlib.Core.Path.{_≡_};
-ghost use Rattle.plan.specs.Sectors.{isStep, entryInRange, planInRange};
+ghost use Rattle.plan.specs.Sectors.{isStep, isFunction, entryInRange, planInRange};
 use crate::Plan;
 use crate::Sector;
-use crate::active::sector_ok;
 use units::Angle;
 
 // One of the 23 steps.
@@ -17,19 +16,34 @@ pub fn is_step(step: Angle) -> bool
     if 64 < n {
         return false;
     }
-    5760 % n == 0
+    units::divides_circle(step)
 }
 
-// An entry's function is 0, 1, 3 or 4, and its stop at most 5759.
-pub fn entry_in_range(entry: Sector) -> bool
+// A function that an active sector may have.
+pub(crate) fn is_function(f: u16) -> bool
+    ensures { λ r. ⌜ r ≡ isFunction f ⌝ }
+{
+    if f == 1 {
+        return true;
+    }
+    if f == 3 {
+        return true;
+    }
+    f == 4
+}
+
+// An entry's function is one of these or 0, and its stop lies on the circle.
+fn entry_in_range(entry: Sector) -> bool
     ensures { λ r. ⌜ r ≡ entryInRange entry ⌝ }
 {
-    let f = entry.function;
-    let stop = entry.stop.0;
-    if f == 0 {
-        return stop <= 5759;
+    let stop = entry.stop;
+    if !units::on_circle(stop) {
+        return false;
     }
-    sector_ok(entry)
+    if entry.function == 0 {
+        return true;
+    }
+    is_function(entry.function)
 }
 
 // All eight entries are in their ranges.

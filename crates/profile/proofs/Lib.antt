@@ -2,10 +2,12 @@
 pub mod ProfileLengths
 pub mod Revolved
 pub mod Carried
+pub mod AllShots
 pub mod PointByPoint
 pub mod ProfileRows
 -- The functions
 pub mod PointSums
+pub mod Selecting
 pub mod Writing
 pub mod SectorTurns
 pub mod WholeProfile

@@ -6,6 +6,7 @@ use Prim.Native.Nat.{ℕ, _+_, _*_, _≤_, _<_}
 use native.Mathlib.Omega.{arith}
 use lib.Dec.{eqb}
 use lib.ListN.{length, getD, drop, drop-of-length-le}
+use Rattle.units.specs.Directions.{circle}
 use Rattle.words.specs.Choice.{if_then_else_}
 use Rattle.words.specs.Lists.{Each, none, this, total}
 use Rattle.words.proofs.Arrays.{from-here}
@@ -43,7 +44,7 @@ module _ (p : Plan) (step k sum : ℕ) where
         let l = len in
         rw ea (omega (arith, rw (from-here (arcs step (activeOf p)) k noArc (omega arith)) at inv))
 
-    pub points-bound : sum ≤ k * 5760 → sum + a .points ≤ (k + 1) * 5760
+    pub points-bound : sum ≤ k * circle → sum + a .points ≤ (k + 1) * circle
     unfolding arcAt
     points-bound i =
         let l = len in
@@ -52,7 +53,7 @@ module _ (p : Plan) (step k sum : ℕ) where
         each-at noArc k (points-few step (lastStop 0 (activeOf p)) 0 (activeOf p)) (omega arith) in
         rw ea (omega arith)
 
-    pub points-fit : n ≤ 8 → sum ≤ k * 5760 → sum + a .points < 65536
+    pub points-fit : n ≤ 8 → sum ≤ k * circle → sum + a .points < 65536
     points-fit l i = omega (arith, points-bound i)
 
 -- `plan_length`

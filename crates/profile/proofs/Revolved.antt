@@ -1,12 +1,14 @@
 -- Demand 1 of revolutions: a refusal changes nothing, each is given exactly then, and ranges are kept.
 use mathlib.Core.Path.{_≡_, refl, _∙_}
 use mathlib.Core.Bool.{Bool, true, false, not}
+use mathlib.Core.List.{[], _∷_}
 use Prim.Native.Nat.{ℕ, _+_, _-_, _≤_}
 use native.Mathlib.Omega.{arith}
 use lib.Dec.{T, ltb, eqb, le→leb, leb→le}
 use lib.ListN.{length}
 use borrow.Author.Tests.{eqb-false}
 use Rattle.words.specs.Choice.{if_then_else_}
+use Rattle.words.specs.Numbers.{no, firstOf}
 use Rattle.words.proofs.Tests.{and-l, and-r, and-both}
 use Rattle.layout.specs.Masks.{maskOk}
 use Rattle.state.specs.declared.State.{State}
@@ -16,14 +18,14 @@ use Rattle.state.specs.declared.Job.the-variants.{Absent, Counted, Endless}
 use Rattle.state.specs.Ranges.{isMeasure, jobOk, inRange}
 use Rattle.state.specs.Replies.{Result, refused, delivered, Unchanged}
 use Rattle.state.proofs.Delivery.{refused-unchanged, done, delivered-by, delivered-number}
-use Rattle.state.proofs.Parts.{parts, whole}
-use Rattle.profile.specs.Profiles.{Given}
-use Rattle.profile.specs.Revolutions.{jobAfter, revolved, revolutionRefusal, revolutionOf}
-use Rattle.profile.specs.Demands.{RefusalsChangeNothing, listsFit, RefusalsExactly, RangesKept}
+use Rattle.state.proofs.Parts.{parts, whole, drive-set, counter-set}
+use Rattle.profile.specs.Profiles.{Scan}
+use Rattle.profile.specs.Revolutions.{risen, jobAfter, revolved, listsFit, revolutionRefusal, revolutionOf}
+use Rattle.profile.specs.Demands.{RefusalsChangeNothing, RefusalsExactly, RangesKept}
 
 -- what holds of every refusal and of the outcome holds of the revolution
-pub revolution-by : (P : Result → Type 0) (s : State) (g : Given) (room : ℕ) → ((n : ℕ) → (n ≡ 0 → ⊥) → P (refused s n)) → P (done (revolved s g))
-    → P (revolutionOf s g room)
+pub revolution-by : (P : Result → Type 0) (s : State) (g : Scan) (room : ℕ) → ((n : ℕ) → (n ≡ 0 → ⊥) → P (refused s n))
+    → P (done (revolved s g)) → P (revolutionOf s g room)
 unfolding revolutionOf
 revolution-by P s g room h k = go (eqb (revolutionRefusal s g) 0) refl
   where
@@ -35,14 +37,17 @@ pub refusals-change-nothing : RefusalsChangeNothing
 refusals-change-nothing s g d =
     revolution-by (λ x. (x .reply .refusal ≡ 0 → ⊥) → Unchanged s d x) s g (length d) (λ n _ _. refused-unchanged s n d) (λ n. absurd (n refl))
 
+-- the tests one after another, as the definition has them and as the table has them
 in-order : (a b c f : Bool)
-    → _≡_ {A = ℕ}
-    (if eqb (if a then 1 else if b then 7 else if c then 8 else 0) 0 then (if f then 6 else 0) else (if a then 1 else if b then 7 else if c then 8 else 0))
-    (if a then 1 else if b then 7 else if c then 8 else if f then 6 else 0)
+    → (if eqb (if a then 1 else if b then 7 else if c then 8 else 0) 0
+    then (if f then 6 else 0)
+    else (if a then 1 else if b then 7 else if c then 8 else 0))
+    ≡ firstOf (no 1 a ∷ no 7 b ∷ no 8 c ∷ no 6 f ∷ [])
 in-order true b c f = refl
 in-order false true c f = refl
 in-order false false true f = refl
-in-order false false false f = refl
+in-order false false false true = refl
+in-order false false false false = refl
 
 pub refusals-exactly : RefusalsExactly
 unfolding revolutionOf revolutionRefusal
@@ -87,4 +92,5 @@ unfolding revolved
 ranges-kept s g room h =
     revolution-by (λ x. T (inRange (x .reply .state))) s g room (λ _ _. h)
     (let p = parts s h in
-    whole _ (record { config = p .config; working = p .working; stored = p .stored; running = p .running; checks = p .checks; job = job-kept (s .mode) (s .job) (p .job) }))
+    let driven = drive-set s p (s .mode) (s .running) (jobAfter (s .job)) (p .running) (p .checks) (job-kept (s .mode) (s .job) (p .job)) in
+    whole _ (counter-set _ driven (risen (s .counter))))

@@ -1,30 +1,24 @@
 -- The loop of `write_sectors`: a sector a turn, each into the rest of the buffer.
 use mathlib.Core.Path.{_≡_, refl, sym, _∙_}
-use mathlib.Core.List.{List, [], _∷_, _++_, append-assoc, append-nil}
-use Prim.Native.Nat.{ℕ, zero, suc, _+_, _-_, _≤_, _<_}
+use mathlib.Core.List.{List, [], _∷_, _++_}
+use Prim.Native.Nat.{ℕ, suc, _+_, _-_, _≤_, _<_}
 use native.Mathlib.Nat.{add-zero, zero-add, add-suc, suc-add}
 use native.Mathlib.Omega.{arith}
 use lib.ListN.{length, getD, take, drop, length-take, length-drop}
 use Rattle.words.specs.Words.{laidAll}
 use Rattle.words.specs.Buffers.{inTurn, Wrote, Put}
 use Rattle.words.proofs.Each.{each-at}
-use Rattle.words.proofs.Puts.{turn-fits, turn-put, turns-all, lent-put}
+use Rattle.words.proofs.Puts.{turn-first, turn-fits, turn-put, turns-all, lent-put}
 use Rattle.layout.specs.Layout.{layoutSector}
 use Rattle.plan.specs.declared.Arc.{Arc}
 use Rattle.plan.specs.declared.Plan.{Plan}
 use Rattle.plan.specs.Sectors.{activeOf}
 use Rattle.plan.specs.Shots.{lastStop, arcs, noArc, arcAt}
 use Rattle.plan.proofs.ArcSums.{arcs-length}
-use Rattle.profile.specs.Profiles.{Given, sectorOf, sectorsOf}
-use Rattle.profile.specs.Asked.{SectorAsked, SectorsAsked}
+use Rattle.profile.specs.Profiles.{Scan, sectorOf, sectorsOf}
+use Rattle.profile.specs.Asked.{sectorsWords, SectorAsked, SectorsAsked}
 
--- blocks in turn, the first one taken off
-turn-first : (f : ℕ → List ℕ) (n : ℕ) → inTurn f (suc n) ≡ f 0 ++ inTurn (λ j. f (suc j)) n
-unfolding inTurn
-turn-first f zero = sym (append-nil (f 0))
-turn-first f (suc n) = rw (turn-first f n, append-assoc)
-
-laid-turns : (mask step rate : ℕ) (g : Given) (f : ℕ → List ℕ) (n : ℕ) (l : List Arc)
+laid-turns : (mask step rate : ℕ) (g : Scan) (f : ℕ → List ℕ) (n : ℕ) (l : List Arc)
     → ((j : ℕ) → f j ≡ layoutSector (sectorOf mask step rate g (n + j) (getD l j noArc)))
     → laidAll layoutSector (sectorsOf mask step rate g n l) ≡ inTurn f (length l)
 unfolding inTurn
@@ -35,15 +29,15 @@ laid-turns mask step rate g f n (a ∷ l) h =
     rw (turn-first, one, rest)
 
 -- the words of the sector at a place
-abbrev pub sectorWords : ℕ → ℕ → ℕ → Given → Plan → ℕ → List ℕ
+abbrev pub sectorWords : ℕ → ℕ → ℕ → Scan → Plan → ℕ → List ℕ
 sectorWords mask step rate g p j = layoutSector (sectorOf mask step rate g j (arcAt p step j))
 
-module _ {mask step rate : ℕ} {g : Given} {p : Plan} {from : ℕ} {d₀ : List ℕ} (asked : SectorsAsked mask step rate g p from d₀)
+module _ {mask step rate : ℕ} {g : Scan} {p : Plan} {from : ℕ} {d₀ : List ℕ} (asked : SectorsAsked mask step rate g p from d₀)
     {n : ℕ} (en : n ≡ length (activeOf p)) where
   many : length (arcs step (activeOf p)) ≡ n
   many = arcs-length step (lastStop 0 (activeOf p)) 0 (activeOf p) ∙ sym en
 
-  laid : laidAll layoutSector (sectorsOf mask step rate g 0 (arcs step (activeOf p))) ≡ inTurn (sectorWords mask step rate g p) n
+  laid : sectorsWords mask step rate g p ≡ inTurn (sectorWords mask step rate g p) n
   unfolding arcAt
   laid = rw (← many) (laid-turns mask step rate g (sectorWords mask step rate g p) 0 (arcs step (activeOf p)) (λ j. rw zero-add))
 
@@ -65,17 +59,18 @@ module _ {mask step rate : ℕ} {g : Given} {p : Plan} {from : ℕ} {d₀ : List
           rw ea
           record {
             arc = each-at noArc k (asked .arcs-in) (omega (arith, many));
-            turning = asked .turning;
             room = rw (length-take, length-drop) (omega arith);
           }
 
-      module _ {part : List ℕ} {m : ℕ} (w : Wrote (layoutSector (sectorOf mask step rate g k a)) (take (length d - to) (drop to d)) part m) where
+      module _ {part : List ℕ} {m : ℕ}
+          (w : Wrote (layoutSector (sectorOf mask step rate g k a)) (take (length d - to) (drop to d)) part m) where
         pub sector-fits : to + m ≤ length d
         sector-fits = let r = rw (← ea) at next-room in omega (arith, w .counted)
 
-        pub sector-more : Put (inTurn (sectorWords mask step rate g p) (k + 1)) d₀ from (take to d ++ (part ++ drop (length d - to) (drop to d))) (to + m)
+        pub sector-more : Put (inTurn (sectorWords mask step rate g p) (k + 1)) d₀ from
+            (take to d ++ (part ++ drop (length d - to) (drop to d))) (to + m)
         sector-more = turn-put (sectorWords mask step rate g p) n all-room so-far (lent-put behind-sectors (rw ea at w))
 
   pub sectors-done : {d : List ℕ} {k to : ℕ} → Put (inTurn (sectorWords mask step rate g p) k) d₀ from d to → k ≤ n → n ≤ k
-      → Put (laidAll layoutSector (sectorsOf mask step rate g 0 (arcs step (activeOf p)))) d₀ from d to
+      → Put (sectorsWords mask step rate g p) d₀ from d to
   sectors-done so-far h l = rw laid (turns-all (sectorWords mask step rate g p) n all-room so-far h l)

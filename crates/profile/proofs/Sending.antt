@@ -2,23 +2,23 @@
 use mathlib.Core.Path.{_≡_, sym, ap, _∙_}
 use mathlib.Core.Bool.{Bool, true, false, not, _&&_}
 use mathlib.Core.List.{List, [], _∷_}
-use Prim.Native.Nat.{ℕ, _+_, _*_, _≤_, _<_}
-use native.Mathlib.Nat.{div-le-self, mul-le-mul}
+use Prim.Native.Nat.{ℕ, _+_, _≤_, _<_}
+use native.Mathlib.Nat.{div-le-self}
 use native.Mathlib.Omega.{arith}
 use lib.Dec.{T, eqb, leb, leb→le, eqb→eq}
 use lib.ListN.{length}
 use borrow.Author.Tests.{eq-eqb, ne-eqb}
 use Rattle.words.specs.Choice.{if_then_else_}
-use Rattle.words.specs.Lists.{Each, none, this, some, total}
+use Rattle.words.specs.Lists.{Each, none, this, total}
 use Rattle.words.specs.Buffers.{Wrote}
 use Rattle.words.proofs.Overs.{over-none}
 use Rattle.words.proofs.Tests.{and-l, and-r}
-use Rattle.units.specs.Directions.{revolutionShots}
+use Rattle.units.specs.Directions.{circle, revolutionShots}
 use Rattle.layout.specs.Layout.{layout}
 use Rattle.layout.specs.Lengths.{profileLength}
 use Rattle.plan.specs.declared.Sector.{Sector}
 use Rattle.plan.specs.Sectors.{stopOf, activeOf}
-use Rattle.plan.specs.Shots.{lastStop, shotsOf, arcOf, arcsFrom, arcs}
+use Rattle.plan.specs.Shots.{lastStop, shotsOf, arcOf, arcsFrom}
 use Rattle.plan.proofs.Rounds.{revolution}
 use Rattle.state.specs.declared.State.{State}
 use Rattle.state.specs.declared.Mode.{Mode}
@@ -26,13 +26,13 @@ use Rattle.state.specs.declared.Job.{Job}
 use Rattle.state.specs.declared.Job.the-variants.{Absent, Counted, Endless}
 use Rattle.state.specs.declared.Reply.{Reply}
 use Rattle.state.specs.Ranges.{isMeasure, jobOk, inRange}
-use Rattle.state.specs.Replies.{Outcome, delivered, Answered}
+use Rattle.state.specs.Replies.{delivered, Answered}
 use Rattle.state.proofs.Parts.{parts}
 use Rattle.state.proofs.Measuring.{measures}
 use Rattle.state.proofs.Delivery.{reply, is-refused, no-room, has-room}
-use Rattle.profile.specs.Profiles.{Given, fieldsOf}
-use Rattle.profile.specs.Revolutions.{risen, turned, profileOf, revolved, revolutionRefusal, revolutionOf}
-use Rattle.profile.specs.Asked.{given, ArcAsked, ProfileAsked, SendAsked, JobAsked}
+use Rattle.profile.specs.Profiles.{Scan, scan, arcsOf, fieldsOf}
+use Rattle.profile.specs.Revolutions.{risen, turned, profileOf, revolved, listsFit, revolutionRefusal, revolutionOf}
+use Rattle.profile.specs.Asked.{ArcAsked, ProfileAsked, SendAsked, sendOutcome, JobAsked}
 use Rattle.profile.proofs.PointSums.{if-most}
 use Rattle.profile.proofs.ProfileLengths.{profile-long}
 
@@ -46,8 +46,8 @@ job-asked m (Counted left mask sent) h =
 job-asked m (Endless mask sent) h = tt
 
 -- the shots of arcs are among those of lists that are as long as all of them
-arcs-asked : (g : Given) (step before shot n : ℕ) (ss : List Sector) → shot + total (λ a. a .shots) (arcsFrom step before shot ss) ≡ n → n ≤ 5760
-    → length (g .distances) ≡ n → length (g .echoes) ≡ n → Each (ArcAsked g) (arcsFrom step before shot ss)
+arcs-asked : (g : Scan) (step before shot n : ℕ) (ss : List Sector) → shot + total (λ a. a .shots) (arcsFrom step before shot ss) ≡ n
+    → n ≤ circle → length (g .distances) ≡ n → length (g .echoes) ≡ n → Each (ArcAsked g) (arcsFrom step before shot ss)
 arcs-asked g step before shot n [] e few d h = none
 arcs-asked g step before shot n (s ∷ ss) e few d h =
     this {x = arcOf step before shot s}
@@ -60,20 +60,12 @@ arcs-asked g step before shot n (s ∷ ss) e few d h =
     }
     (arcs-asked g step (stopOf s) (shot + shotsOf step before s) n ss (omega arith) few d h)
 
-some-shots : (step before shot : ℕ) (ss : List Sector) → T (some ss) → 1 ≤ total (λ a. a .shots) (arcsFrom step before shot ss)
-some-shots step before shot [] h = absurd h
-some-shots step before shot (s ∷ ss) h = omega arith
-
 -- the length that the code has for a profile of so many words
 abbrev LengthOf : State → ℕ → ℕ → Type 0
-LengthOf s mask n = n ≡ profileLength mask (length (activeOf (s .working))) (total (λ a. a .points) (arcs (s .step .0) (activeOf (s .working))))
-
--- what a job's profile does
-abbrev sending : State → Given → ℕ → ℕ → Outcome
-sending s g mask sent = record { after = turned s; words = layout (fieldsOf s g mask sent (risen (s .counter))) }
+LengthOf s mask n = n ≡ profileLength mask (length (activeOf (s .working))) (total (λ a. a .points) (arcsOf s))
 
 -- `send`
-module _ {s : State} {g : Given} (asked : SendAsked s g) where
+module _ {s : State} {g : Scan} (asked : SendAsked s g) where
   pub send-turn : JobAsked (s .job)
   send-turn = job-asked (s .mode) (s .job) (parts s (asked .range) .job)
 
@@ -82,56 +74,52 @@ module _ {s : State} {g : Given} (asked : SendAsked s g) where
       let m = measures s (asked .range) (asked .measures) (asked .eight) in
       let step = s .step .0 in
       let ss = activeOf (s .working) in
+      let shots = revolutionShots step in
       let all = revolution step (m .step) (s .working) (m .plan) .shots in
-      let some-shot : 1 ≤ revolutionShots step = rw all at (some-shots step (lastStop 0 ss) 0 ss (m .plan .valid .at-least-one)) in
-      let t = m .turning in
-      let turns : 1 ≤ s .running = omega arith in
-      let product : 1 * 1 ≤ s .running * revolutionShots step = mul-le-mul turns some-shot in
-      let few = div-le-self 5760 step in
+      let ds = and-l (eqb (length (g .distances)) shots) (eqb (length (g .echoes)) shots) (asked .lists) in
+      let es = and-r (eqb (length (g .distances)) shots) (eqb (length (g .echoes)) shots) (asked .lists) in
       record {
         eight = asked .eight;
-        arcs-in = arcs-asked g step (lastStop 0 ss) 0 (revolutionShots step) ss (omega (arith, all)) few (asked .distances) (asked .echoes);
-        turning = omega (arith, product);
+        arcs-in =
+            arcs-asked g step (lastStop 0 ss) 0 shots ss (omega (arith, all)) (div-le-self circle step) (eqb→eq _ shots ds) (eqb→eq _ shots es);
         room = rw (profile-long s g mask sent counter, ← en) h;
       }
 
-  module _ (mask sent n : ℕ) {d : List ℕ} (en : LengthOf s mask n) where
-    pub sends-none : length d < n → Answered (reply s 6 0) d d (delivered s (sending s g mask sent) (length d))
-    sends-none h = no-room s (sending s g mask sent) d n (profile-long s g mask sent (risen (s .counter)) ∙ sym en) h
+  module _ (mask sent n : ℕ) (en : LengthOf s mask n) where
+    long : length (sendOutcome s g mask sent .words) ≡ n
+    long = profile-long s g mask sent (risen (s .counter)) ∙ sym en
 
-    pub sends : {next : State} {counter r : ℕ} {d' : List ℕ} → next ≡ turned s → counter ≡ risen (s .counter) → n ≤ length d
-        → Wrote (layout (fieldsOf s g mask sent counter)) d d' r → Answered (reply next 0 r) d d' (delivered s (sending s g mask sent) (length d))
-    sends {counter = counter} {r = r} {d' = d'} e ec h w =
+    pub sends-none : {d : List ℕ} → length d < n → Answered (reply s 6 0) d d (delivered s (sendOutcome s g mask sent) (length d))
+    sends-none {d} h = no-room s (sendOutcome s g mask sent) d n long h
+
+    pub sends : {next : State} {counter r : ℕ} {d d' : List ℕ} → next ≡ turned s → counter ≡ risen (s .counter) → n ≤ length d
+        → Wrote (layout (fieldsOf s g mask sent counter)) d d' r
+        → Answered (reply next 0 r) d d' (delivered s (sendOutcome s g mask sent) (length d))
+    sends {counter = counter} {r = r} {d = d} {d' = d'} e ec h w =
         let v : Wrote (layout (fieldsOf s g mask sent (risen (s .counter)))) d d' r = rw ec at w in
-        let l : r ≡ n = v .counted ∙ profile-long s g mask sent (risen (s .counter)) ∙ sym en in
-        rw (e, l) (has-room s (sending s g mask sent) d n (profile-long s g mask sent (risen (s .counter)) ∙ sym en) h d' (v .words))
+        let l : r ≡ n = v .counted ∙ long in
+        rw (e, l) (has-room s (sendOutcome s g mask sent) d n long h d' (v .words))
 
 -- `revolution`
-module _ (s : State) (ds es : List ℕ) (start n : ℕ) (en : n ≡ revolutionRefusal s (given 0 ds es)) where
-  same : n ≡ revolutionRefusal s (given start ds es)
+module _ (s : State) (ds es : List ℕ) (start n : ℕ) (en : n ≡ revolutionRefusal s (scan 0 ds es)) where
+  same : n ≡ revolutionRefusal s (scan start ds es)
   unfolding revolutionRefusal
   same = en
 
-  pub refuses : {d : List ℕ} → (n ≡ 0 → ⊥) → Answered (reply s n 0) d d (revolutionOf s (given start ds es) (length d))
+  pub refuses : {d : List ℕ} → (n ≡ 0 → ⊥) → Answered (reply s n 0) d d (revolutionOf s (scan start ds es) (length d))
   unfolding revolutionOf
   refuses {d} h = rw (← same, ne-eqb n 0 h) (is-refused s n d)
 
   module _ (z : n ≡ 0) where
-    goes-on : (room : ℕ) → revolutionOf s (given start ds es) room ≡ delivered s (revolved s (given start ds es)) room
+    goes-on : (room : ℕ) → revolutionOf s (scan start ds es) room ≡ delivered s (revolved s (scan start ds es)) room
     unfolding revolutionOf
     goes-on room = rw (← same, eq-eqb n 0 z)
 
-    pub accepted : length (s .working .sectors) ≡ 8 → SendAsked s (given start ds es)
+    pub accepted : length (s .working .sectors) ≡ 8 → SendAsked s (scan start ds es)
     unfolding revolutionRefusal
     accepted eight =
-        let t = tests (inRange s) (isMeasure (s .mode)) (eqb (length ds) (revolutionShots (s .step .0)) && eqb (length es) (revolutionShots (s .step .0))) (sym en ∙ z) in
-        record {
-          eight = eight;
-          range = t .0;
-          measures = t .1;
-          distances = eqb→eq _ _ (and-l (eqb (length ds) (revolutionShots (s .step .0))) (eqb (length es) (revolutionShots (s .step .0))) (t .2));
-          echoes = eqb→eq _ _ (and-r (eqb (length ds) (revolutionShots (s .step .0))) (eqb (length es) (revolutionShots (s .step .0))) (t .2));
-        }
+        let t = tests (inRange s) (isMeasure (s .mode)) (listsFit s (scan start ds es)) (sym en ∙ z) in
+        record { eight = eight; range = t .0; measures = t .1; lists = t .2 }
       where
         tests : (a b c : Bool) → _≡_ {A = ℕ} (if not a then 1 else if not b then 7 else if not c then 8 else 0) 0 → T a × T b × T c
         tests true true true e = (tt, tt, tt)
@@ -140,17 +128,20 @@ module _ (s : State) (ds es : List ℕ) (start n : ℕ) (en : n ≡ revolutionRe
         tests false b c e = absurd (omega arith)
 
     module _ {d : List ℕ} where
-      pub no-profile : s .job ≡ Absent → {next : State} → next ≡ turned s → Answered (reply next 0 0) d d (revolutionOf s (given start ds es) (length d))
+      pub no-profile : s .job ≡ Absent → {next : State} → next ≡ turned s
+          → Answered (reply next 0 0) d d (revolutionOf s (scan start ds es) (length d))
       unfolding revolved
       no-profile j e =
-          let w : profileOf s (given start ds es) (s .job) ≡ [] = ap (λ (x : Job). profileOf s (given start ds es) x) j in
-          rw (goes-on, e) (has-room s (revolved s (given start ds es)) d 0 (ap length w) (omega arith) d (rw w (sym (over-none d))))
+          let w : profileOf s (scan start ds es) (s .job) ≡ [] = ap (λ (x : Job). profileOf s (scan start ds es) x) j in
+          rw (goes-on, e) (has-room s (revolved s (scan start ds es)) d 0 (ap length w) (omega arith) d (rw w (sym (over-none d))))
 
-      module _ {r : Reply} {d' : List ℕ} (mask sent sent' : ℕ) (sends : Answered r d d' (delivered s (sending s (given start ds es) mask sent') (length d))) where
-        pub counted-profile : {left : ℕ} → s .job ≡ Counted left mask sent → sent' ≡ sent + 1 → Answered r d d' (revolutionOf s (given start ds es) (length d))
+      module _ {r : Reply} {d' : List ℕ} (mask sent sent' : ℕ)
+          (sends : Answered r d d' (delivered s (sendOutcome s (scan start ds es) mask sent') (length d))) where
+        pub counted-profile : {left : ℕ} → s .job ≡ Counted left mask sent → sent' ≡ sent + 1
+            → Answered r d d' (revolutionOf s (scan start ds es) (length d))
         unfolding revolved
         counted-profile j e = rw (goes-on, j) (rw (e, j) at sends)
 
-        pub endless-profile : s .job ≡ Endless mask sent → sent' ≡ risen sent → Answered r d d' (revolutionOf s (given start ds es) (length d))
+        pub endless-profile : s .job ≡ Endless mask sent → sent' ≡ risen sent → Answered r d d' (revolutionOf s (scan start ds es) (length d))
         unfolding revolved
         endless-profile j e = rw (goes-on, j) (rw (e, j) at sends)

@@ -10,9 +10,9 @@ use Rattle.units.specs.Directions.{revolutionShots}
 use Rattle.state.specs.declared.State.{State}
 use Rattle.state.specs.declared.Job.{Job}
 use Rattle.state.specs.declared.Job.the-variants.{Absent, Counted, Endless}
-use Rattle.state.specs.Fields.{withDrive, withPort}
+use Rattle.state.specs.Fields.{withDrive, withCounter}
 use Rattle.state.specs.Ranges.{isMeasure, inRange}
-use Rattle.profile.specs.Profiles.{Given}
+use Rattle.profile.specs.Profiles.{Scan}
 use Rattle.profile.specs.Asked.{JobAsked}
 use Rattle.profile.specs.Revolutions.{risen, jobAfter, turned, revolutionRefusal}
 
@@ -46,11 +46,11 @@ stays = omega arith
 
 -- `turn`
 pub turned-so : (s d r : State) (j : Job) (n : ℕ) → j ≡ jobAfter (s .job) → d ≡ withDrive s (s .mode) (s .running) j → n ≡ risen (s .counter)
-    → r ≡ withPort d (s .port) n → r ≡ turned s
+    → r ≡ withCounter d n → r ≡ turned s
 turned-so s d r j n ej ed en er = er ∙ rw (ed, ej, en)
 
 -- `revolution_refusal`
-module _ (s : State) (g : Given) (a : Bool) (ea : a ≡ inRange s) where
+module _ (s : State) (g : Scan) (a : Bool) (ea : a ≡ inRange s) where
   pub no-range : not a ≡ true → 1 ≡ revolutionRefusal s g
   unfolding revolutionRefusal
   no-range q = rw (said-no ea q)

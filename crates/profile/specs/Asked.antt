@@ -1,13 +1,13 @@
--- What the inner writers ask of their callers: that the shots are in both lists, and that there is room. No outside caller meets these.
+-- What the inner writers ask of their callers, and the words that each puts. No outside caller meets these.
 use mathlib.Core.Path.{_≡_}
-use mathlib.Core.List.{List, _∷_, _++_}
-use Prim.Native.Nat.{ℕ, _+_, _*_, _≤_, _<_}
+use mathlib.Core.List.{List, _++_}
+use Prim.Native.Nat.{ℕ, _+_, _≤_, _<_}
 use lib.Dec.{T}
 use lib.ListN.{length}
-use Rattle.units.specs.Directions.{revolutionShots}
-use Rattle.layout.specs.Layout.{layoutSector, layout}
 use Rattle.words.specs.Lists.{Each}
 use Rattle.words.specs.Words.{laidAll}
+use Rattle.layout.specs.Bits as bits
+use Rattle.layout.specs.Layout.{layoutSector, layout}
 use Rattle.plan.specs.declared.Arc.{Arc}
 use Rattle.plan.specs.declared.Plan.{Plan}
 use Rattle.plan.specs.Sectors.{activeOf}
@@ -16,56 +16,71 @@ use Rattle.state.specs.declared.State.{State}
 use Rattle.state.specs.declared.Job.{Job}
 use Rattle.state.specs.declared.Job.the-variants.{Absent, Counted, Endless}
 use Rattle.state.specs.Ranges.{isMeasure, inRange}
+use Rattle.state.specs.Replies.{Outcome}
 use Rattle.profile.specs.Points.{selected}
-use Rattle.profile.specs.Profiles.{Given, pointsOf, sectorOf, sectorsOf, fieldsOf}
+use Rattle.profile.specs.Profiles.{Scan, pointsOf, sectorOf, sectorsOf, arcsOf, rateOf, fieldsOf}
+use Rattle.profile.specs.Revolutions.{risen, turned, listsFit}
 
-abbrev pub given : ℕ → List ℕ → List ℕ → Given
-given start distances echoes = record { start = start; distances = distances; echoes = echoes }
+-- the words of a sector before its points, and behind them
+abbrev pub openingWords : ℕ → ℕ → ℕ → ℕ → ℕ → ℕ → List ℕ
+openingWords mask number step points tstart startdir =
+    selected mask bits.number number
+    ++ selected mask bits.step step
+    ++ selected mask bits.points points
+    ++ selected mask bits.tstart tstart
+    ++ selected mask bits.startdir startdir
+
+abbrev pub closingWords : ℕ → ℕ → ℕ → List ℕ
+closingWords mask tend enddir = selected mask bits.tend tend ++ selected mask bits.enddir enddir
+
+-- the words of a profile between its head and its sectors, and behind them
+abbrev pub frontWords : ℕ → ℕ → ℕ → List ℕ
+frontWords mask sent counter = selected mask bits.sent sent ++ selected mask bits.counter counter ++ selected mask bits.layer 0
+
+abbrev pub statusWords : ℕ → ℕ → List ℕ
+statusWords mask status = selected mask bits.senstat 0 ++ selected mask bits.senstat status
 
 -- an arc of at least one shot, whose shots are among those of the lists and have numbers of 16 bits
-pub record ArcAsked (g : Given) (a : Arc) : Type 0 where
+pub record ArcAsked (g : Scan) (a : Arc) : Type 0 where
   pub points : a .points ≤ a .shots
   pub some-shot : 1 ≤ a .shots
   pub numbered : a .shot + a .shots < 65536
   pub distances : a .shot + a .shots ≤ length (g .distances)
   pub echoes : a .shot + a .shots ≤ length (g .echoes)
 
-pub record PointsAsked (mask step : ℕ) (g : Given) (a : Arc) (out : List ℕ) : Type 0 where
+pub record PointsAsked (mask step : ℕ) (g : Scan) (a : Arc) (out : List ℕ) : Type 0 where
   pub arc : ArcAsked g a
   pub room : length (pointsOf mask step g a) ≤ length out
 
-pub record SectorAsked (mask step rate : ℕ) (g : Given) (number : ℕ) (a : Arc) (out : List ℕ) : Type 0 where
+pub record SectorAsked (mask step rate : ℕ) (g : Scan) (number : ℕ) (a : Arc) (out : List ℕ) : Type 0 where
   pub arc : ArcAsked g a
-  pub turning : 0 < rate
   pub room : length (layoutSector (sectorOf mask step rate g number a)) ≤ length out
 
+-- the words of a plan's sectors
+abbrev pub sectorsWords : ℕ → ℕ → ℕ → Scan → Plan → List ℕ
+sectorsWords mask step rate g p = laidAll layoutSector (sectorsOf mask step rate g 0 (arcs step (activeOf p)))
+
 -- the arcs of a plan, each with its shots in the lists, and room for all sectors from a place on
-pub record SectorsAsked (mask step rate : ℕ) (g : Given) (p : Plan) (from : ℕ) (out : List ℕ) : Type 0 where
+pub record SectorsAsked (mask step rate : ℕ) (g : Scan) (p : Plan) (from : ℕ) (out : List ℕ) : Type 0 where
   pub eight : length (p .sectors) ≡ 8
   pub arcs-in : Each (ArcAsked g) (arcs step (activeOf p))
-  pub turning : 0 < rate
-  pub room : from + length (laidAll layoutSector (sectorsOf mask step rate g 0 (arcs step (activeOf p)))) ≤ length out
+  pub room : from + length (sectorsWords mask step rate g p) ≤ length out
 
--- the words of a profile before its sectors, and behind them
-abbrev pub headWords : ℕ → ℕ → ℕ → ℕ → List ℕ
-headWords mask sectors sent counter = 0x8301 ∷ mask ∷ (0x0100 + sectors) ∷ (selected mask 0 sent ++ selected mask 1 counter ++ selected mask 2 0)
-
-abbrev pub statusWords : ℕ → ℕ → List ℕ
-statusWords mask status = selected mask 13 0 ++ selected mask 13 status
-
-pub record ProfileAsked (s : State) (g : Given) (mask sent counter : ℕ) (out : List ℕ) : Type 0 where
+pub record ProfileAsked (s : State) (g : Scan) (mask sent counter : ℕ) (out : List ℕ) : Type 0 where
   pub eight : length (s .working .sectors) ≡ 8
-  pub arcs-in : Each (ArcAsked g) (arcs (s .step .0) (activeOf (s .working)))
-  pub turning : 0 < s .running * revolutionShots (s .step .0)
+  pub arcs-in : Each (ArcAsked g) (arcsOf s)
   pub room : length (layout (fieldsOf s g mask sent counter)) ≤ length out
 
--- a state in its ranges and in MEASURE, and lists of N words
-pub record SendAsked (s : State) (g : Given) : Type 0 where
+-- a state in its ranges and in MEASURE, and lists that fit
+pub record SendAsked (s : State) (g : Scan) : Type 0 where
   pub eight : length (s .working .sectors) ≡ 8
   pub range : T (inRange s)
   pub measures : T (isMeasure (s .mode))
-  pub distances : length (g .distances) ≡ revolutionShots (s .step .0)
-  pub echoes : length (g .echoes) ≡ revolutionShots (s .step .0)
+  pub lists : T (listsFit s g)
+
+-- what a job's profile does
+abbrev pub sendOutcome : State → Scan → ℕ → ℕ → Outcome
+sendOutcome s g mask sent = record { after = turned s; words = layout (fieldsOf s g mask sent (risen (s .counter))) }
 
 -- a counted job that can go on: some left, and its number sent can rise
 abbrev pub JobAsked : Job → Type 0

@@ -1,38 +1,36 @@
--- Document 01, 'Bench figures': the P rows of profiles. Proved in proofs/ProfileRows.antt.
+-- Document 01, 'Bench figures': the P rows of profiles; and the rows of a listing of real heads. Proved in proofs/ProfileRows.antt.
 use mathlib.Core.List.{List, [], _∷_}
-use Prim.Native.Nat.{ℕ}
+use Prim.Native.Nat.{ℕ, _-_, _*_}
 use lib.ListN.{replicate}
+use Rattle.words.specs.Lists.{total}
 use Rattle.words.specs.Rows.{Row, Shown}
+use Rattle.units.specs.Directions.{circle, revolutionShots}
+use Rattle.layout.specs.Masks.{pointWidth}
 use Rattle.layout.specs.Lengths.{profileLength}
 use Rattle.plan.specs.declared.Plan.{Plan}
-use Rattle.plan.specs.Figures.{freshPlan, twoSectors}
-use Rattle.state.specs.declared.State.{State}
-use Rattle.state.specs.declared.Mode.the-variants.{Measure}
-use Rattle.state.specs.declared.Job.the-variants.{Counted}
-use Rattle.state.specs.Fields.{withConfig, withPlans, withDrive}
-use Rattle.state.specs.Fresh.{freshState}
-use Rattle.profile.specs.Profiles.{Given}
+use Rattle.plan.specs.Sectors.{sector, filled, activeOf}
+use Rattle.plan.specs.Shots.{arcs}
+use Rattle.plan.specs.Checks.{litShots, measureError}
+use Rattle.plan.specs.Figures.{twoSectors}
+use Rattle.state.specs.Fresh.{freshPlan, measuring}
+use Rattle.profile.specs.Profiles.{Scan}
 use Rattle.profile.specs.Revolutions.{revolutionOf}
 
--- a sensor that measures at 10 Hz, with a job of one profile
-abbrev pub measuring : ℕ → Plan → ℕ → State
-measuring step p mask = withDrive (withPlans (withConfig freshState 1 10 step) p p) Measure 10 (Counted 1 mask 0)
-
 -- so many shots, from start time 0, each of distance 0 and echo 0
-abbrev pub still : ℕ → Given
+abbrev pub still : ℕ → Scan
 still shots = record { start = 0; distances = replicate shots 0; echoes = replicate shots 0 }
 
 abbrev pub profileRows : List Row
 profileRows =
-    -- "mask 0120h on the fresh plan: 724 words"
+    -- mask 0120h on the fresh plan: 724 words
     record {
-      given = revolutionOf (measuring 8 freshPlan 0x0120) (still 720) 724 .reply .count ∷ profileLength 0x0120 1 720 ∷ [];
+      value = revolutionOf (measuring freshPlan 8 10 0x0120) (still 720) 724 .reply .count ∷ profileLength 0x0120 1 720 ∷ [];
       figure = 724 ∷ 724 ∷ [];
     }
-    -- "step 4, sectors (1, 1436), (3, 3360): sector 1 has 481 points from 1440; sector 0 starts at 3364. At 10 Hz from start time 0,
-    -- sector 1's times are 66 and 99 ms": number, step, points, time and direction of the first shot and of the last, sector by sector
+    -- the two sectors at step 4 and 10 Hz, from start time 0: number, step, points, time and direction of the first shot and of the last,
+    -- sector by sector
     ∷ record {
-      given = revolutionOf (measuring 4 twoSectors 0x18F8) (still 1440) 17 .written;
+      value = revolutionOf (measuring twoSectors 4 10 0x18F8) (still 1440) 17 .written;
       figure =
           0x8301 ∷ 0x18F8 ∷ 0x0102
           ∷ 0 ∷ 4 ∷ 0 ∷ 0 ∷ 3364 ∷ 66 ∷ 1436
@@ -40,5 +38,41 @@ profileRows =
     }
     ∷ []
 
+-- The listing's own configurations, document 002, 8.2.1, which real heads run. A scanned area of so many sixteenths of a degree, up to
+-- the last direction: the whole circle is one sector, less of it comes behind one without measurement.
+abbrev pub wholeCircle : ℕ → Plan
+wholeCircle step = filled (sector 3 (circle - step) ∷ [])
+
+abbrev pub lastPart : ℕ → ℕ → Plan
+lastPart area step = filled (sector 1 (circle - area - step) ∷ sector 3 (circle - step) ∷ [])
+
+-- the first check that fails, words of points in a profile, lit shots a second, and shots a second
+abbrev pub throughput : Plan → ℕ → ℕ → ℕ → List ℕ
+throughput p step speed mask =
+    measureError p step speed
+    ∷ total (λ a. a .points) (arcs step (activeOf p)) * pointWidth mask
+    ∷ speed * litShots p step
+    ∷ speed * revolutionShots step
+    ∷ []
+
+-- 180, 270 and 360 degrees are 2880, 4320 and 5760 sixteenths, and 1/8, 3/16, 1/4, 3/8, 1/2 and 3/4 degree are steps 2, 3, 4, 6, 8 and 12
+abbrev pub listingRows : List Row
+listingRows =
+    record { value = throughput (lastPart 2880 2) 2 5 0x3DFF; figure = 0 ∷ 2880 ∷ 7200 ∷ 14400 ∷ [] }
+    ∷ record { value = throughput (lastPart 4320 2) 2 5 0x39FF; figure = 0 ∷ 2160 ∷ 10800 ∷ 14400 ∷ [] }
+    ∷ record { value = throughput (wholeCircle 3) 3 5 0x39FF; figure = 0 ∷ 1920 ∷ 9600 ∷ 9600 ∷ [] }
+    ∷ record { value = throughput (wholeCircle 4) 4 7 0x3DFF; figure = 0 ∷ 2880 ∷ 10080 ∷ 10080 ∷ [] }
+    ∷ record { value = throughput (wholeCircle 6) 6 10 0x3DFF; figure = 0 ∷ 1920 ∷ 9600 ∷ 9600 ∷ [] }
+    ∷ record { value = throughput (lastPart 2880 4) 4 10 0x3DFF; figure = 0 ∷ 1440 ∷ 7200 ∷ 14400 ∷ [] }
+    ∷ record { value = throughput (lastPart 4320 4) 4 10 0x3DFF; figure = 0 ∷ 2160 ∷ 10800 ∷ 14400 ∷ [] }
+    ∷ record { value = throughput (wholeCircle 6) 6 11 0x3DFF; figure = 0 ∷ 1920 ∷ 10560 ∷ 10560 ∷ [] }
+    ∷ record { value = throughput (lastPart 2880 8) 8 20 0x3DFF; figure = 0 ∷ 720 ∷ 7200 ∷ 14400 ∷ [] }
+    ∷ record { value = throughput (lastPart 4320 8) 8 20 0x3DFF; figure = 0 ∷ 1080 ∷ 10800 ∷ 14400 ∷ [] }
+    ∷ record { value = throughput (wholeCircle 12) 12 20 0x3DFF; figure = 0 ∷ 960 ∷ 9600 ∷ 9600 ∷ [] }
+    ∷ []
+
 abbrev pub ProfileFigures : Type 0
 ProfileFigures = Shown profileRows
+
+abbrev pub ListingFigures : Type 0
+ListingFigures = Shown listingRows

@@ -5,62 +5,70 @@ use lib.ListN.{getD}
 use Rattle.words.specs.Bits.{bit}
 use Rattle.words.specs.Words.{givenIf}
 use Rattle.words.specs.Buffers.{inTurn}
-use Rattle.units.specs.Directions.{revolutionShots}
+use Rattle.units.specs.Directions.{stepsPast, revolutionShots}
+use Rattle.units.specs.Times.{shotTime}
+use Rattle.layout.specs.Bits as bits
 use Rattle.layout.specs.Fields.{SectorFields, Fields}
 use Rattle.plan.specs.declared.Arc.{Arc}
 use Rattle.plan.specs.Sectors.{activeOf}
 use Rattle.plan.specs.Shots.{arcs}
 use Rattle.state.specs.declared.State.{State}
 use Rattle.state.specs.Modes.{modeNumber}
-use Rattle.profile.specs.Points.{shotTime, pointDirection, pointWords}
+use Rattle.profile.specs.Points.{pointWords}
 
--- what a revolution's caller gives: the start time, and the words by shot
-pub record Given : Type 0 where
+-- a scan, what a revolution's caller hands in: the start time, and the words of distance and echo by shot
+pub record Scan : Type 0 where
   pub start : ℕ
   pub distances : List ℕ
   pub echoes : List ℕ
 
--- point i of an arc: "its distance and echo are the lists' words at that shot"
-abbrev pub pointAt : ℕ → ℕ → Given → Arc → ℕ → List ℕ
+abbrev pub scan : ℕ → List ℕ → List ℕ → Scan
+scan start distances echoes = record { start = start; distances = distances; echoes = echoes }
+
+-- point i of an arc, i steps past its first direction: the lists' words at that shot
+abbrev pub pointAt : ℕ → ℕ → Scan → Arc → ℕ → List ℕ
 pointAt mask step g a i =
-    pointWords mask (getD (g .distances) (a .shot + i) 0) (pointDirection (a .first .0) step i) (getD (g .echoes) (a .shot + i) 0)
+    pointWords mask (getD (g .distances) (a .shot + i) 0) (stepsPast step i (a .first .0)) (getD (g .echoes) (a .shot + i) 0)
 
 -- the words of an arc's points
-unfoldable pub pointsOf : ℕ → ℕ → Given → Arc → List ℕ
+unfoldable pub pointsOf : ℕ → ℕ → Scan → Arc → List ℕ
 pointsOf mask step g a = inTurn (pointAt mask step g a) (a .points)
 
--- "For every sector: 3 number, 4 step, 5 points, 6 time of its first shot, 7 first direction; for each point [..]; then 11 time of its
--- last shot, 12 last direction."
-abbrev pub sectorOf : ℕ → ℕ → ℕ → Given → ℕ → Arc → SectorFields
+-- a sector: number, step, points, time of its first shot, first direction; the points; time of its last shot, last direction
+abbrev pub sectorOf : ℕ → ℕ → ℕ → Scan → ℕ → Arc → SectorFields
 sectorOf mask step rate g number a =
     record {
-      number = givenIf (bit mask 3) number;
-      step = givenIf (bit mask 4) step;
-      points = givenIf (bit mask 5) (a .points);
-      tstart = givenIf (bit mask 6) (shotTime (g .start) rate (a .shot));
-      startdir = givenIf (bit mask 7) (a .first .0);
+      number = givenIf (bit mask bits.number) number;
+      step = givenIf (bit mask bits.step) step;
+      points = givenIf (bit mask bits.points) (a .points);
+      tstart = givenIf (bit mask bits.tstart) (shotTime (g .start) rate (a .shot));
+      startdir = givenIf (bit mask bits.startdir) (a .first .0);
       body = pointsOf mask step g a;
-      tend = givenIf (bit mask 11) (shotTime (g .start) rate (a .shot + a .shots - 1));
-      enddir = givenIf (bit mask 12) (a .last .0);
+      tend = givenIf (bit mask bits.tend) (shotTime (g .start) rate (a .shot + a .shots - 1));
+      enddir = givenIf (bit mask bits.enddir) (a .last .0);
     }
 
 -- the sectors, numbered from a number on
-abbrev pub sectorsOf : ℕ → ℕ → ℕ → Given → ℕ → List Arc → List SectorFields
+abbrev pub sectorsOf : ℕ → ℕ → ℕ → Scan → ℕ → List Arc → List SectorFields
 sectorsOf mask step rate g number [] = []
 sectorsOf mask step rate g number (a ∷ l) = sectorOf mask step rate g number a ∷ sectorsOf mask step rate g (suc number) l
 
--- "if its bit is set: 0 sent (first is 1), 1 counter, both after the rise, 2 layer (always 0)", the sectors, "Once at the end: 13
--- SENSTAT"
-abbrev pub fieldsOf : State → Given → ℕ → ℕ → ℕ → Fields
+-- the arcs of a state's revolution, and the rate of its shots
+abbrev pub arcsOf : State → List Arc
+arcsOf s = arcs (s .step .0) (activeOf (s .working))
+
+abbrev pub rateOf : State → ℕ
+rateOf s = s .running * revolutionShots (s .step .0)
+
+-- number sent, counter, layer 0; the sectors; SENSTAT
+abbrev pub fieldsOf : State → Scan → ℕ → ℕ → ℕ → Fields
 fieldsOf s g mask sent counter =
     record {
       mask = mask;
-      sent = givenIf (bit mask 0) sent;
-      counter = givenIf (bit mask 1) counter;
-      layer = givenIf (bit mask 2) 0;
-      sectors =
-          sectorsOf mask (s .step .0) (s .running * revolutionShots (s .step .0)) g 0
-          (arcs (s .step .0) (activeOf (s .working)));
-      high = givenIf (bit mask 13) 0;
-      low = givenIf (bit mask 13) (modeNumber (s .mode));
+      sent = givenIf (bit mask bits.sent) sent;
+      counter = givenIf (bit mask bits.counter) counter;
+      layer = givenIf (bit mask bits.layer) 0;
+      sectors = sectorsOf mask (s .step .0) (rateOf s) g 0 (arcsOf s);
+      high = givenIf (bit mask bits.senstat) 0;
+      low = givenIf (bit mask bits.senstat) (modeNumber (s .mode));
     }

@@ -2,10 +2,9 @@
 ghost use mathlib.Core.Path.{_≡_};
 ghost use lib.ListN.{length};
 ghost use Rattle.state.specs.Replies.{Answered, delivered};
-ghost use Rattle.layout.specs.Layout.{layout};
-ghost use Rattle.profile.specs.Profiles.{fieldsOf};
-ghost use Rattle.profile.specs.Asked.{given, JobAsked, SendAsked};
-ghost use Rattle.profile.specs.Revolutions.{risen, jobAfter, turned, revolutionRefusal, revolutionOf};
+ghost use Rattle.profile.specs.Profiles.{scan};
+ghost use Rattle.profile.specs.Asked.{JobAsked, SendAsked, sendOutcome};
+ghost use Rattle.profile.specs.Revolutions.{risen, jobAfter, turned, revolutionRefusal, RevolutionSays};
 use crate::profiles::plan_length;
 use crate::profiles::write_profile;
 use state::Job;
@@ -53,12 +52,12 @@ fn turn(state: State) -> State
     let mode = state.mode;
     let job = state.job;
     let driven = state::with_drive(state, mode, state.running, job_after(job));
-    state::with_port(driven, state.port, risen_by_one(state.counter))
+    state::with_counter(driven, risen_by_one(state.counter))
 }
 
 // Refusals 1, 7 and 8, 0 for none.
 fn revolution_refusal(state: State, distances: &[u16], echoes: &[u16]) -> u16
-    ensures { λ r. ⌜ r ≡ revolutionRefusal state (given 0 (now (distances .entry)) (now (echoes .entry))) ⌝ }
+    ensures { λ r. ⌜ r ≡ revolutionRefusal state (scan 0 (now (distances .entry)) (now (echoes .entry))) ⌝ }
 {
     if !state::in_range(state) {
         return 1;
@@ -88,14 +87,13 @@ fn send(
     sent: u16,
     out: &mut [u16],
 ) -> Reply
-    requires { ⌜ SendAsked state (given (start .0) (now distances) (now echoes)) ⌝ }
+    requires { ⌜ SendAsked state (scan (start .0) (now distances) (now echoes)) ⌝ }
     ensures { λ r. ⌜ Answered r (now (out .entry)) (now (out .exit))
-        (delivered state (record { after = turned state; words = layout (fieldsOf state (given (start .0) (now (distances .entry)) (now (echoes .entry))) mask sent (risen (state .counter))) }) (length (now (out .entry)))) ⌝ }
+        (delivered state (sendOutcome state (scan (start .0) (now (distances .entry)) (now (echoes .entry))) mask sent) (length (now (out .entry)))) ⌝ }
 {
-    let next = turn(state);
     let plan = state.working;
     let step = state.step;
-    let count = plan_length(plan, step, mask);
+    let count = plan_length(plan, step, mask as u32);
     if out.len() < count {
         return Reply {
             state: state,
@@ -105,6 +103,7 @@ fn send(
     }
     let counter = risen_by_one(state.counter);
     let written = write_profile(out, state, start, distances, echoes, mask, sent, counter);
+    let next = turn(state);
     Reply {
         state: next,
         refusal: 0,
@@ -120,7 +119,7 @@ pub fn revolution(
     echoes: &[u16],
     out: &mut [u16],
 ) -> Reply
-    ensures { λ r. ⌜ Answered r (now (out .entry)) (now (out .exit)) (revolutionOf state (given (start .0) (now (distances .entry)) (now (echoes .entry))) (length (now (out .entry)))) ⌝ }
+    ensures { λ r. ⌜ RevolutionSays state (scan (start .0) (now (distances .entry)) (now (echoes .entry))) (now (out .entry)) (now (out .exit)) r ⌝ }
 {
     let refusal = revolution_refusal(state, distances, echoes);
     if refusal != 0 {

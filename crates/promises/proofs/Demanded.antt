@@ -1,14 +1,18 @@
 -- The three demands, each from the crates that show its parts.
-use Rattle.normal.proofs.Demand3.{demand3 as normal-plans, answers-zero}
+use Rattle.normal.proofs.Demand3.{demand3 as normal-plans, answers-valid}
 use Rattle.normal.proofs.Numbers as plans
 use Rattle.layout.proofs.LayoutLengths.{layout-length}
 use Rattle.sensor.proofs.Demand1 as requests
-use Rattle.sensor.proofs.Changes.{table-holds, only-these}
+use Rattle.plan.proofs.Rounds.{revolution}
+use Rattle.plan.proofs.Tiling.{tiling, counting}
+use Rattle.sensor.proofs.Served.{table-holds, only-these}
 use Rattle.profile.proofs.Revolved as revolutions
-use Rattle.profile.proofs.Carried.{points-are-shots, never-longer}
+use Rattle.profile.proofs.Carried.{points-are-shots, sent-length, never-longer}
+use Rattle.profile.proofs.AllShots.{all-points}
 use Rattle.reader.proofs.RoundTrip.{accepts-exactly, put-together, reads-back, one-reading}
 use Rattle.reader.proofs.Numbers as readings
 use Rattle.reader.proofs.PointNumbers.{no-points}
+use Rattle.reader.proofs.Standing.{stands-at-place}
 use Rattle.promises.specs.Demands.{Demand1, Demand2, Demand3}
 use Rattle.promises.proofs.Determining.{determined}
 use Rattle.promises.proofs.Exchanged.{sent-is-read}
@@ -23,6 +27,7 @@ demand1 =
       plan-numbers = plans.refusals-exactly;
       reader-numbers = readings.refusals-exactly;
       stretch-numbers = readings.stretch-numbers;
+      room-for-all = requests.room-for-all;
       request-unchanged = requests.refusals-change-nothing;
       revolution-unchanged = revolutions.refusals-change-nothing;
       plan-of-zeros = plans.refusals-give-zeros;
@@ -35,16 +40,22 @@ demand2 =
     record {
       tabled = table-holds;
       only-these = only-these;
+      runs-round = revolution;
+      tiling = tiling;
+      counting = counting;
       points = points-are-shots;
-      long = layout-length;
+      all-points = all-points;
+      sent-length = sent-length;
       never-longer = never-longer;
       accepts-exactly = accepts-exactly;
       put-together = put-together;
       reads-back = reads-back;
       one-reading = one-reading;
       no-points = no-points;
+      stands-at-place = stands-at-place;
+      laid-length = layout-length;
       sent-is-read = sent-is-read;
     }
 
 pub demand3 : Demand3
-demand3 = record { normal-plans = normal-plans; answers-zero = answers-zero }
+demand3 = record { normal-plans = normal-plans; answers-valid = answers-valid }

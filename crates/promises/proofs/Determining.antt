@@ -6,6 +6,7 @@ use lib.ListN.{length}
 use Rattle.words.specs.Buffers.{over, Wrote}
 use Rattle.state.specs.declared.Reply.{Reply}
 use Rattle.state.specs.Replies.{Result, Answered}
+use Rattle.sensor.proofs.Lawful.{lawful}
 use Rattle.promises.specs.Determined.{OneAnswer, Determined, OneDetermines}
 
 -- the law: two answers that equal the one are equal
@@ -34,7 +35,7 @@ determined =
       revolution = λ s g before. answered before _;
       normal-plan = λ p step. is-value _;
       read = λ ws. is-value _;
-      stretch = λ ws place. is-value _;
+      stretch = λ words place name. by-value (_, _) (record { lends = refl; stands = refl }) (λ a h i. (h .lends i, h .stands i));
       stretch-refusal = λ ws place. is-value _;
       fresh = is-value _;
       profile =
@@ -45,5 +46,9 @@ determined =
           λ s number bytes before. by-value (record { state = _; taken = _; length = _ }, _)
           (record { text = record { words = refl; counted = refl }; state = refl; taken = refl })
           (λ a h i. (record { state = h .state i; taken = h .taken i; length = h .text .counted i }, h .text .words i));
-      service = λ o a b h k. h .same ∙ sym (k .same);
+      service =
+          λ v s code a b c d. by-value _ (record { same = refl; short = lawful v .fine s code a b c d .short }) (λ r h. h .same);
+      by-value = λ A x. is-value x;
+      by-angle = λ n. by-value (record { 0 = n }) refl (λ a h i. record { 0 = h i });
+      by-time = λ n. by-value (record { 0 = n }) refl (λ a h i. record { 0 = h i });
     }

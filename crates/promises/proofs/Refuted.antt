@@ -45,7 +45,7 @@ wrong-answers =
       number-for-count = λ after h. omega (arith, h .counted);
       low-byte-first = λ h. omega (arith, ap (λ (l : List ℕ). getD l 0 0) (h .words));
       cut-for-whole = λ after h. omega (arith, ap sizeOf (h .is));
-      small-digits = λ before eleven h. omega (arith, ap (λ (l : List ℕ). getD l 6 0) (h .words));
+      small-digits = λ before eleven h. omega (arith, ap (λ (l : List ℕ). getD l 6 0) (rw eleven at (h .words)));
       line-cut = λ h. omega (arith, h .counted);
       cut-record-taken = λ s text h. omega (arith, h .taken);
     }

@@ -11,26 +11,25 @@ use Rattle.plan.specs.Sectors.{sector, isStep, entryInRange, planInRange, fille
 use Rattle.plan.specs.Validity.{ValidPlan}
 use Rattle.plan.specs.Shots.{Shot}
 use Rattle.plan.specs.Checks.{litShots, measureError}
-use Rattle.plan.specs.Figures.{freshPlan}
 use Rattle.plan.specs.Demands.{noShot}
-use Rattle.normal.specs.NormalForm.{normalPlan, planRefusal}
-use Rattle.normal.specs.Demands.{Normalises}
-use Rattle.normal.proofs.Demand3.{demand3, answers-zero}
+use Rattle.normal.specs.NormalForm.{planRefusal, normalisedOf}
+use Rattle.normal.specs.Demands.{Normalises, planBack}
+use Rattle.normal.proofs.Demand3.{demand3, answers-valid}
 use Rattle.layout.specs.Masks.{maskOk}
 use Rattle.state.specs.declared.State.{State}
 use Rattle.state.specs.declared.Reply.{Reply}
 use Rattle.state.specs.Ranges.{configOk, inRange}
 use Rattle.state.specs.Replies.{delivered, Result}
 use Rattle.state.specs.Fields.{withPlans, withPort}
-use Rattle.state.specs.Fresh.{freshState}
+use Rattle.state.specs.Fresh.{freshPlan, freshState, measuring}
 use Rattle.sensor.specs.Table.{serviceOf}
 use Rattle.sensor.specs.Requests.{serviceRefusal, requestRefusal, outcome, requestOf}
 use Rattle.profile.specs.Points.{pointWords}
-use Rattle.profile.specs.Profiles.{Given, pointsOf}
+use Rattle.profile.specs.Profiles.{Scan, pointsOf}
 use Rattle.profile.specs.Revolutions.{revolved, revolutionRefusal, revolutionOf}
-use Rattle.profile.specs.Figures.{measuring, still}
+use Rattle.profile.specs.Figures.{still}
 use Rattle.reader.specs.declared.Reading.{Reading}
-use Rattle.reader.specs.Readings.{headRefusal, bodyOf, readOf}
+use Rattle.reader.specs.Readings.{headRefusal, bodyOf, readOf, ReadSays}
 use Rattle.promises.specs.StandIns.{Call, Answering, OnlyTheFirstSector, ShutOut, StandInsShutOut}
 
 -- what a caller finds of a result: its reply, and the buffer afterwards
@@ -74,7 +73,7 @@ shut-out result s i j d k w =
 requests : ShutOut requestOf
 unfolding over requestOf delivered requestRefusal serviceRefusal outcome serviceOf inRange configOk isStep entryInRange planInRange litShots measureError maskOk
 requests =
-    shut-out requestOf (withPort freshState 4 0) (0x0105 ∷ 1 ∷ []) (0x0102 ∷ []) (replicate 5 0) 1
+    shut-out requestOf (withPort freshState 4) (0x0105 ∷ 1 ∷ []) (0x0102 ∷ []) (replicate 5 0) 1
     (record {
       served = refl;
       other-input = λ e. omega (arith, e);
@@ -85,13 +84,13 @@ requests =
     })
 
 -- a revolution of 90 shots whose profile carries the time of its first one, from start times 7 and 0
-abbrev lateStart : Given
+abbrev lateStart : Scan
 lateStart = record { start = 7; distances = replicate 90 0; echoes = replicate 90 0 }
 
 revolutions : ShutOut revolutionOf
 unfolding over revolutionOf delivered revolutionRefusal revolved inRange configOk isStep entryInRange planInRange litShots measureError maskOk pointsOf pointWords inTurn
 revolutions =
-    shut-out revolutionOf (measuring 64 (filled (sector 3 5696 ∷ [])) 0x0040) lateStart (still 90) (replicate 5 0) 3
+    shut-out revolutionOf (measuring (filled (sector 3 5696 ∷ [])) 64 10 0x0040) lateStart (still 90) (replicate 5 0) 3
     (record {
       served = refl;
       other-input = λ e. omega (arith, e);
@@ -105,10 +104,10 @@ revolutions =
 abbrev twoSectors : ℕ → Plan
 twoSectors second = filled (sector 1 1408 ∷ sector second 5696 ∷ [])
 
-only-the-first-sector : (f : Call Given) → Answering revolutionOf f → OnlyTheFirstSector f → ⊥
+only-the-first-sector : (f : Call Scan) → Answering revolutionOf f → OnlyTheFirstSector f → ⊥
 unfolding over revolutionOf delivered revolutionRefusal revolved inRange configOk isStep entryInRange planInRange litShots measureError maskOk pointsOf pointWords inTurn
 only-the-first-sector f h same =
-    let s = measuring 64 freshPlan 0x0020 in
+    let s = measuring freshPlan 64 10 0x0020 in
     let d : List ℕ = replicate 5 0 in
     let e = agree revolutionOf f h (wordAt 4) (withPlans s (twoSectors 3) (s .stored)) (withPlans s (twoSectors 1) (s .stored)) (still 90) (still 90) d
     (ap (λ (l : List ℕ). getD l 4 0) (same s (twoSectors 3) (twoSectors 1) (still 90) d refl refl)) in
@@ -116,32 +115,32 @@ only-the-first-sector f h same =
 
 -- a profile that carries its number sent, and no word at all
 
-reader-refuses-all : (f : List ℕ → Reading) → ((ws : List ℕ) → f ws ≡ readOf ws) → ((ws : List ℕ) → f ws .refusal ≡ 0 → ⊥) → ⊥
+reader-refuses-all : (f : List ℕ → Reading) → ((ws : List ℕ) → ReadSays ws (f ws)) → ((ws : List ℕ) → f ws .refusal ≡ 0 → ⊥) → ⊥
 unfolding maskOk headRefusal bodyOf readOf
 reader-refuses-all f h all = all (0x8301 ∷ 1 ∷ 0x0101 ∷ 1 ∷ []) (ap (λ (r : Reading). r .refusal) (h (0x8301 ∷ 1 ∷ 0x0101 ∷ 1 ∷ [])))
 
-one-reading-for-all : (f : List ℕ → Reading) → ((ws : List ℕ) → f ws ≡ readOf ws) → ((vs ws : List ℕ) → f vs ≡ f ws) → ⊥
+one-reading-for-all : (f : List ℕ → Reading) → ((ws : List ℕ) → ReadSays ws (f ws)) → ((vs ws : List ℕ) → f vs ≡ f ws) → ⊥
 unfolding maskOk headRefusal bodyOf readOf
 one-reading-for-all f h same =
     omega (arith, ap (λ (r : Reading). r .refusal) (sym (h []) ∙ same [] (0x8301 ∷ 1 ∷ 0x0101 ∷ 1 ∷ []) ∙ h (0x8301 ∷ 1 ∷ 0x0101 ∷ 1 ∷ [])))
 
--- "(3,1000), (3,2000), (1,3000)", whose normal plan has a sector less
+-- two neighbours with one function, whose normal plan has a sector less
 abbrev joinable : Plan
 joinable = filled (sector 3 1000 ∷ sector 3 2000 ∷ sector 1 3000 ∷ [])
 
-step-8 : (p : Plan) → length (p .sectors) ≡ 8 → planRefusal p 8 ≡ 0 → T (isStep 8) × ValidPlan 8 p
-step-8 p eight e = answers-zero 8 p eight .0 e
+step-8 : (p : Plan) → length (p .sectors) ≡ 8 → normalisedOf p 8 .refusal ≡ 0 → T (isStep 8) × ValidPlan 8 p
+step-8 p eight e = answers-valid 8 p eight .zero .0 e
 
-plan-handed-back : Normalises (λ p. p) → ⊥
-unfolding planRefusal isStep
+plan-handed-back : Normalises (λ step p. p) → ⊥
+unfolding normalisedOf planRefusal isStep
 plan-handed-back h =
     let v = step-8 joinable refl refl in
     let n = demand3 8 (v .0) joinable (v .1) in
-    omega (arith, h 8 (v .0) joinable (v .1) .fewest (normalPlan joinable) (n .valid) (n .runs-so))
+    omega (arith, h 8 (v .0) joinable (v .1) .fewest (planBack 8 joinable) (n .valid) (n .runs-so))
 
--- "fresh plan [..]: from 0", and "With stop 0: from 8"
-one-fixed-plan : (q : Plan) → Normalises (λ _. q) → ⊥
-unfolding planRefusal isStep
+-- the fresh plan begins at 0, and one with stop 0 at 8
+one-fixed-plan : (q : Plan) → Normalises (λ step p. q) → ⊥
+unfolding normalisedOf planRefusal isStep
 one-fixed-plan q h =
     let v = step-8 freshPlan refl refl in
     let w = step-8 (filled (sector 3 0 ∷ [])) refl refl in

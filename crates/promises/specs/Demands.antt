@@ -1,17 +1,20 @@
 -- The three demands, each as the statements that show it. They stand in the crates that they speak of; this cites them. Proved in
 -- proofs/Demanded.antt.
-use Rattle.normal.specs.Demands.{Demand3 as NormalPlans, AnswersZero, RefusalsExactly as PlanNumbers, RefusalsGiveZeros}
+use Rattle.normal.specs.Demands.{Demand3 as NormalPlans, AnswersValid, RefusalsExactly as PlanNumbers, RefusalsGiveZeros}
 use Rattle.layout.specs.Lengths.{LayoutLength}
-use Rattle.sensor.specs.Demands.{RefusalsExactly as RequestNumbers, RefusalsChangeNothing as RequestUnchanged, TableHolds, OnlyThese}
-use Rattle.profile.specs.Demands.{RefusalsExactly as RevolutionNumbers, RefusalsChangeNothing as RevolutionUnchanged, NeverLonger, PointsAreShots}
-use Rattle.reader.specs.Demands.{AcceptsExactly, PutTogether, ReadsBack, OneReading, NoPoints, RefusalsExactly as ReaderNumbers, StretchNumbers, RefusalsGiveNothing}
+use Rattle.plan.specs.Demands.{Tiling, Counting, Revolution}
+use Rattle.sensor.specs.Demands.{RefusalsExactly as RequestNumbers, RefusalsChangeNothing as RequestUnchanged, RoomForAll, TableHolds, OnlyThese}
+use Rattle.profile.specs.Demands.{RefusalsExactly as RevolutionNumbers, RefusalsChangeNothing as RevolutionUnchanged}
+use Rattle.profile.specs.Demands.{SentLength, NeverLonger, PointsAreShots, AllPoints}
+use Rattle.reader.specs.Demands.{AcceptsExactly, PutTogether, ReadsBack, OneReading, NoPoints, StandsAtPlace}
+use Rattle.reader.specs.Demands.{RefusalsExactly as ReaderNumbers, StretchNumbers, RefusalsGiveNothing}
 use Rattle.promises.specs.Determined.{Determined}
 use Rattle.promises.specs.Exchange.{SentIsRead}
 use Rattle.promises.specs.Life.{Life}
 
 -- 1. Every list of words, every lent buffer and every sensor state handed in gets an answer and the call ends. A refusal by number, as
 -- tabled in document 01, writes no word and changes no part of the state. Nobody is asked to check a request first.
-pub record Demand1 : Type 0 where
+pub record Demand1 : Type 1 where
   -- an answer to everything, and only one: the contracts ask nothing of the caller. That each call ends is in its own proof
   pub answered : Determined
   -- the numbers, each given exactly then
@@ -20,6 +23,8 @@ pub record Demand1 : Type 0 where
   pub plan-numbers : PlanNumbers
   pub reader-numbers : ReaderNumbers
   pub stretch-numbers : StretchNumbers
+  -- room for the longest answer is room for every one
+  pub room-for-all : RoomForAll
   -- what a refusal leaves
   pub request-unchanged : RequestUnchanged
   pub revolution-unchanged : RevolutionUnchanged
@@ -32,12 +37,17 @@ pub record Demand1 : Type 0 where
 -- host's reader takes exactly the word lists laid out as a profile that carry what it needs, and the words put together again from its
 -- reading are the words it was given.
 pub record Demand2 : Type 0 where
-  -- the table and its answers, and what no other service changes
+  -- the table and its answers, and that a service changes no part of the state but its own
   pub tabled : TableHolds
   pub only-these : OnlyThese
-  -- the profile: its points are the run's shots, its length is the formula's, and never above 6544
+  -- a revolution: the directions and functions of its shots, how the sectors share them, and how many of them count
+  pub runs-round : Revolution
+  pub tiling : Tiling
+  pub counting : Counting
+  -- the profile: its points are the run's measured shots, each one and no other; its length is the formula's, and never above the greatest
   pub points : PointsAreShots
-  pub long : LayoutLength
+  pub all-points : AllPoints
+  pub sent-length : SentLength
   pub never-longer : NeverLonger
   -- the reader
   pub accepts-exactly : AcceptsExactly
@@ -45,6 +55,8 @@ pub record Demand2 : Type 0 where
   pub reads-back : ReadsBack
   pub one-reading : OneReading
   pub no-points : NoPoints
+  pub stands-at-place : StandsAtPlace
+  pub laid-length : LayoutLength
   -- both together
   pub sent-is-read : SentIsRead
 
@@ -52,6 +64,7 @@ pub record Demand2 : Type 0 where
 -- passes the same directions in the same order with the same function at each, those without measurement included. The normal plan
 -- itself runs so, normalising again changes nothing, and no valid plan with fewer active sectors runs so.
 pub record Demand3 : Type 0 where
+  -- of the plan that `normal_plan` hands back
   pub normal-plans : NormalPlans
-  -- the call gives the normal plan exactly to the valid plans
-  pub answers-zero : AnswersZero
+  -- it does so, with refusal 0, exactly for the valid plans
+  pub answers-valid : AnswersValid

@@ -1,4 +1,4 @@
--- Document 01, 'Bench figures': all P rows, in one list.
+-- Document 01, 'Bench figures': all P rows, and behind them those of the listing of real heads (document 002, 8.2.1), in one list.
 use mathlib.Core.List.{List, _++_}
 use Prim.Native.Nat.{ℕ, _≤_}
 use Rattle.words.specs.Rows.{Row, Shown}
@@ -6,12 +6,13 @@ use Rattle.plan.specs.declared.Plan.{Plan}
 use Rattle.plan.specs.Validity.{ValidPlan}
 use Rattle.plan.specs.Figures.{planRows}
 use Rattle.normal.specs.Figures.{normalRows}
+use Rattle.state.specs.Figures.{stateRows}
 use Rattle.sensor.specs.Figures.{requestRows}
-use Rattle.profile.specs.Figures.{profileRows}
+use Rattle.profile.specs.Figures.{profileRows, listingRows}
 
 -- for any plan that is valid for step 1 and any speed
 abbrev pub rows : Plan → ℕ → List Row
-rows p speed = planRows p speed ++ normalRows p ++ requestRows ++ profileRows
+rows p speed = planRows p speed ++ normalRows p ++ stateRows ++ requestRows ++ profileRows ++ listingRows
 
 abbrev pub BenchFigures : Type 0
 BenchFigures = (p : Plan) (speed : ℕ) → ValidPlan 1 p → 5 ≤ speed → speed ≤ 20 → Shown (rows p speed)

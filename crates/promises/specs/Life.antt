@@ -10,14 +10,14 @@ use Rattle.state.specs.Fresh.{freshState}
 use Rattle.state.specs.Ranges.{inRange}
 use Rattle.state.specs.Replies.{Result}
 use Rattle.sensor.specs.Requests.{requestOf}
-use Rattle.profile.specs.Profiles.{Given}
+use Rattle.profile.specs.Profiles.{Scan}
 use Rattle.profile.specs.Revolutions.{revolutionOf}
 use Rattle.promises.specs.Exchange.{ProfileRead}
 
 -- what happens to a sensor: it is asked by words, or turns with what it is given; and the length of the buffer that is lent
 pub data Event : Type 0 where
   asks : List ℕ → ℕ → Event
-  turns : Given → ℕ → Event
+  turns : Scan → ℕ → Event
 
 abbrev pub resultOf : State → Event → Result
 resultOf s (asks ws room) = requestOf s ws room

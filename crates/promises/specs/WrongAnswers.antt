@@ -3,9 +3,9 @@
 use mathlib.Core.Path.{_≡_}
 use mathlib.Core.Bool.{true}
 use mathlib.Core.List.{List, [], _∷_}
-use Prim.Native.Nat.{ℕ, _*_}
-use lib.ListN.{length, getD}
-use Rattle.words.specs.Buffers.{Wrote}
+use Prim.Native.Nat.{ℕ}
+use lib.ListN.{length}
+use Rattle.words.specs.Plain.{ProductSays, WordAtSays}
 use Rattle.plan.specs.declared.Plan.{Plan}
 use Rattle.plan.specs.Sectors.{sector, entryAt, withEntry, filled}
 use Rattle.plan.specs.Validity.{multiples}
@@ -15,17 +15,15 @@ use Rattle.state.specs.declared.Mode.the-variants.{Rotate, Measure}
 use Rattle.state.specs.Modes.{modeNumber}
 use Rattle.state.specs.declared.Job.the-variants.{Absent}
 use Rattle.state.specs.Fields.{withPlans, withDrive}
-use Rattle.state.specs.Fresh.{freshState}
-use Rattle.profile.specs.Revolutions.{revolutionOf}
+use Rattle.state.specs.Fresh.{freshState, FreshSays}
 use Rattle.profile.specs.Figures.{still}
-use Rattle.flat.specs.Sending.{sending}
-use Rattle.flat.specs.Sent.{Sent}
+use Rattle.flat.specs.Sent.{ProfileSays}
 use Rattle.reader.specs.Demands.{turnedRound}
-use Rattle.reader.specs.Stretches.{stretchRefusalOf}
+use Rattle.reader.specs.Stretches.{StretchRefusalSays}
 use Rattle.dialogue.specs.declared.Record.the-variants.{Whole}
-use Rattle.dialogue.specs.Records.{Taken}
-use Rattle.dialogue.specs.Lines.{lineOf, fitting}
-use Rattle.dialogue.specs.Talks.{Answers}
+use Rattle.dialogue.specs.Records.{TakeRecordSays}
+use Rattle.dialogue.specs.Lines.{WriteLineSays}
+use Rattle.dialogue.specs.Talks.{AnswerSays}
 
 abbrev pub twoWords : List ℕ
 twoWords = 1 ∷ 2 ∷ []
@@ -35,10 +33,10 @@ twoEntries = filled (sector 3 1000 ∷ sector 1 3000 ∷ [])
 
 pub record WrongAnswers : Type 0 where
   -- `product`: cut to 16 bits
-  pub product-cut : 0 ≡ 256 * 256 → ⊥
+  pub product-cut : ProductSays 256 256 0 → ⊥
   -- `word_at`: the first word for every place; the last word past the end
-  pub first-word : 1 ≡ getD twoWords 1 0 → ⊥
-  pub word-past-the-end : 2 ≡ getD twoWords 2 0 → ⊥
+  pub first-word : WordAtSays twoWords 1 1 → ⊥
+  pub word-past-the-end : WordAtSays twoWords 2 2 → ⊥
   -- `entry_at`: the first entry for every place; the last active one past it
   pub first-entry : sector 3 1000 ≡ entryAt twoEntries 1 → ⊥
   pub entry-past-the-last : sector 1 3000 ≡ entryAt twoEntries 2 → ⊥
@@ -51,21 +49,21 @@ pub record WrongAnswers : Type 0 where
   -- `mode_number`: IDLE's for every mode
   pub idle-number : 1 ≡ modeNumber Measure → ⊥
   -- `fresh`: a sensor that turns already; sector 0 up to the last direction of all
-  pub fresh-turning : withDrive freshState Rotate 10 Absent ≡ freshState → ⊥
-  pub fresh-stop : withPlans freshState (filled (sector 3 5759 ∷ [])) (freshState .stored) ≡ freshState → ⊥
+  pub fresh-turning : FreshSays (withDrive freshState Rotate 10 Absent) → ⊥
+  pub fresh-stop : FreshSays (withPlans freshState (filled (sector 3 5759 ∷ [])) (freshState .stored)) → ⊥
   -- `stretch_refusal`: 17 where the words are refused; a place of S taken, of two sectors
-  pub place-first : 17 ≡ stretchRefusalOf [] 8 → ⊥
-  pub place-s : 0 ≡ stretchRefusalOf turnedRound 2 → ⊥
+  pub place-first : StretchRefusalSays [] 8 17 → ⊥
+  pub place-s : StretchRefusalSays turnedRound 2 0 → ⊥
   -- `slackjib_profile`: the number for no in the place of the count, at mask 0
-  pub number-for-count : (after : List ℕ) → Sent 1 (7 ∷ []) after (revolutionOf (sending [] 8 10 0) (still 720) 1) → ⊥
+  pub number-for-count : (after : List ℕ) → ProfileSays [] 8 10 0 (still 720) (7 ∷ []) after 1 → ⊥
   -- `take_record`: the low byte first; a record that its end cuts taken for whole
-  pub low-byte-first : Taken (Whole 1) (1 ∷ 1 ∷ 2 ∷ []) (7 ∷ []) (0x0201 ∷ []) → ⊥
-  pub cut-for-whole : (after : List ℕ) → Taken (Whole 1) (1 ∷ 1 ∷ []) (7 ∷ []) after → ⊥
+  pub low-byte-first : TakeRecordSays (Whole 1) (1 ∷ 1 ∷ 2 ∷ []) (7 ∷ []) (0x0201 ∷ []) → ⊥
+  pub cut-for-whole : (after : List ℕ) → TakeRecordSays (Whole 1) (1 ∷ 1 ∷ []) (7 ∷ []) after → ⊥
   -- `write_line`: small hex digits, "1 0 1 abcd"; as much of a line as there is room for
   pub small-digits :
       (before : List ℕ) → length before ≡ 11
-      → Wrote (fitting (lineOf 1 0 (0xABCD ∷ [])) 11) before (49 ∷ 32 ∷ 48 ∷ 32 ∷ 49 ∷ 32 ∷ 97 ∷ 98 ∷ 99 ∷ 100 ∷ 10 ∷ []) 11
+      → WriteLineSays 1 0 (0xABCD ∷ []) before (49 ∷ 32 ∷ 48 ∷ 32 ∷ 49 ∷ 32 ∷ 97 ∷ 98 ∷ 99 ∷ 100 ∷ 10 ∷ []) 11
       → ⊥
-  pub line-cut : Wrote (fitting (lineOf 1 0 []) 3) (0 ∷ 0 ∷ 0 ∷ []) (49 ∷ 32 ∷ 48 ∷ []) 3 → ⊥
+  pub line-cut : WriteLineSays 1 0 [] (0 ∷ 0 ∷ 0 ∷ []) (49 ∷ 32 ∷ 48 ∷ []) 3 → ⊥
   -- `answer`: the bytes of a record taken that its end cuts
-  pub cut-record-taken : (s : State) (text : List ℕ) → Answers s 1 (1 ∷ 1 ∷ []) text text (record { state = s; taken = 2; length = 0 }) → ⊥
+  pub cut-record-taken : (s : State) (text : List ℕ) → AnswerSays s 1 (1 ∷ 1 ∷ []) text text (record { state = s; taken = 2; length = 0 }) → ⊥

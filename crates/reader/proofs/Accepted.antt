@@ -10,24 +10,18 @@ use borrow.Author.Tests.{eqb-true, eqb-false}
 use Rattle.words.specs.Parse.{Got, short, got}
 use Rattle.words.specs.Format.{AllOk}
 use Rattle.words.proofs.Lawful.{Sound, SoundOf}
+use Rattle.layout.specs.Layout.{headLength}
 use Rattle.reader.specs.declared.SectorReading.{SectorReading}
 use Rattle.reader.specs.declared.Reading.{Reading}
 use Rattle.reader.specs.Sectors.{sector}
-use Rattle.reader.specs.Readings.{headRefusal, Body, body, refusedReading, acceptedReading, ended, bodyOf, readOf}
+use Rattle.reader.specs.Readings.{maskIn, countIn, headRefusal, Body, body, refusedReading, acceptedReading, ended, bodyOf, readOf}
 use Rattle.reader.proofs.Heads.{GoodHead, good-head}
 use Rattle.reader.proofs.Bodies.{body-lawful}
 use Rattle.reader.proofs.Readouts.{refused-head, read-whole}
 
--- the mask and the number of sectors that the first three words say
-abbrev pub maskIn : List ℕ → ℕ
-maskIn ws = getD ws 1 0
-
-abbrev pub countIn : List ℕ → ℕ
-countIn ws = getD ws 2 0 % 256
-
--- what the body's format finds behind them
+-- what the body's format finds behind the first three words
 abbrev pub foundIn : List ℕ → Got (Body SectorReading)
-foundIn ws = body (maskIn ws) (countIn ws) .parse 3 (drop 3 ws)
+foundIn ws = body (maskIn ws) (countIn ws) .parse headLength (drop headLength ws)
 
 -- a body that is read, with some words left, and what the reader gives then
 pub record Parsed (ws rest : List ℕ) : Type 0 where
@@ -98,8 +92,8 @@ all-length ok (suc n) [] o = absurd o
 all-length ok (suc n) (f ∷ fs) o = ap suc (all-length ok n fs (o .1))
 
 module _ {ws rest : List ℕ} (s : Parsed ws rest) where
-  pub body-sound : Sound (body (maskIn ws) (countIn ws)) ws 3 (s .value) (s .place) rest
-  body-sound = subst (SoundOf (body (maskIn ws) (countIn ws)) ws 3) (s .parsed) (body-lawful (maskIn ws) (countIn ws) .sound ws 3)
+  pub body-sound : Sound (body (maskIn ws) (countIn ws)) ws headLength (s .value) (s .place) rest
+  body-sound = subst (SoundOf (body (maskIn ws) (countIn ws)) ws headLength) (s .parsed) (body-lawful (maskIn ws) (countIn ws) .sound ws headLength)
 
   -- as many sectors as the third word says
   pub many-sectors : length (s .value .1 .1 .1 .0) ≡ countIn ws

@@ -14,15 +14,16 @@ use Rattle.words.specs.Bits.{bit}
 use Rattle.words.specs.Parse.{Got, short, got}
 use Rattle.words.specs.Places.{takeAt}
 use Rattle.words.specs.Format.{Format, times}
-use Rattle.words.proofs.BitLaws.{bit-zero}
 use Rattle.words.proofs.Lawful.{Lawful, SoundOf, KeptOf}
 use Rattle.words.proofs.Extends.{Extends, nothing-extends, optional-extends, join-extends, times-extends}
 use Rattle.words.proofs.Tracks.{Tracks, outAt, in-out, past-out, nothing-tracks, optional-tracks, join-tracks}
+use Rattle.layout.specs.Bits as bits
+use Rattle.layout.specs.Layout.{headLength}
 use Rattle.reader.specs.declared.SectorReading.{SectorReading}
 use Rattle.reader.specs.declared.Sectors.{Sectors}
 use Rattle.reader.specs.Sectors.{sector}
 use Rattle.reader.specs.Readings.{Body, body, refusedReading, ended}
-use Rattle.reader.specs.Steps.{valueOf, placeOf, fromPlace, sectorsOf}
+use Rattle.reader.specs.Places.{valueOf, placeOf, fromPlace, sectorsOf}
 use Rattle.reader.proofs.SectorPlaces.{sector-extends}
 
 pub sectors-extends : (mask count : ℕ) → Extends (times count (sector mask))
@@ -30,12 +31,12 @@ sectors-extends mask count = times-extends (sector mask) (sector-extends mask) c
 
 pub body-extends : (mask count : ℕ) → Extends (body mask count)
 body-extends mask count =
-    optional-extends (bit mask 0) _ λ sent.
-    optional-extends (bit mask 1) _ λ counter.
-    optional-extends (bit mask 2) _ λ layer.
+    optional-extends (bit mask bits.sent) _ λ sent.
+    optional-extends (bit mask bits.counter) _ λ counter.
+    optional-extends (bit mask bits.layer) _ λ layer.
     join-extends _ _ (sectors-extends mask count) (
-    optional-extends (bit mask 13) _ λ high.
-    optional-extends (bit mask 13) _ λ low.
+    optional-extends (bit mask bits.senstat) _ λ high.
+    optional-extends (bit mask bits.senstat) _ λ low.
     nothing-extends)
 
 pub body-lawful : (mask count : ℕ) → Lawful (body mask count)
@@ -62,41 +63,40 @@ pub record BodyWalk (mask count : ℕ) (ws : List ℕ) : Type 0 where
   pub found : Sectors
   pub high : Took
   pub low : Took
-  pub is-sent : sent ≡ takeAt (eqb (mask % 2) 1) ws 3
-  pub is-counter : counter ≡ takeAt (bit mask 1) ws (sent .at)
-  pub is-layer : layer ≡ takeAt (bit mask 2) ws (counter .at)
+  pub is-sent : sent ≡ takeAt (bit mask bits.sent) ws headLength
+  pub is-counter : counter ≡ takeAt (bit mask bits.counter) ws (sent .at)
+  pub is-layer : layer ≡ takeAt (bit mask bits.layer) ws (counter .at)
   pub is-found : found ≡ sectorsOf ws (fromPlace (times count (sector mask)) ws (layer .at))
-  pub is-high : high ≡ takeAt (bit mask 13) ws (found .at)
-  pub is-low : low ≡ takeAt (bit mask 13) ws (high .at)
+  pub is-high : high ≡ takeAt (bit mask bits.senstat) ws (found .at)
+  pub is-low : low ≡ takeAt (bit mask bits.senstat) ws (high .at)
 
-module _ (mask count : ℕ) (ws : List ℕ) (long : 3 ≤ length ws) where
+module _ (mask count : ℕ) (ws : List ℕ) (long : headLength ≤ length ws) where
   -- the body by places, and the place behind it
-  unfoldable by-places : (a : Body SectorReading) × (j : ℕ) × Tracks (body mask count) ws 0 3 a j
+  unfoldable by-places : (a : Body SectorReading) × (j : ℕ) × Tracks (body mask count) ws 0 headLength a j
   by-places = (
     _,
     _,
-    optional-tracks (bit mask 0) _ _ _ _ _ _ λ sent i₁.
-        optional-tracks (bit mask 1) _ _ _ _ _ _ λ counter i₂.
-        optional-tracks (bit mask 2) _ _ _ _ _ _ λ layer i₃.
+    optional-tracks (bit mask bits.sent) _ _ _ _ _ _ λ sent i₁.
+        optional-tracks (bit mask bits.counter) _ _ _ _ _ _ λ counter i₂.
+        optional-tracks (bit mask bits.layer) _ _ _ _ _ _ λ layer i₃.
         join-tracks _ _ (found-tracks (times count (sector mask)) (sectors-extends mask count .lawful) [] ws i₃) (
-        optional-tracks (bit mask 13) _ _ _ _ _ _ λ high i₄.
-        optional-tracks (bit mask 13) _ _ _ _ _ _ λ low i₅.
+        optional-tracks (bit mask bits.senstat) _ _ _ _ _ _ λ high i₄.
+        optional-tracks (bit mask bits.senstat) _ _ _ _ _ _ λ low i₅.
         nothing-tracks _ _ i₅),
   )
 
-  read-by-places : body mask count .parse 3 (drop 3 ws) ≡ outAt ws 0 (by-places .0) (by-places .1)
+  read-by-places : body mask count .parse headLength (drop headLength ws) ≡ outAt ws 0 (by-places .0) (by-places .1)
   read-by-places = by-places .2 .reads long
 
   module _ (w : BodyWalk mask count ws) where
     abbrev pub walked : Body SectorReading
     walked = (w .sent .word, (w .counter .word, (w .layer .word, (valueOf [] (fromPlace (times count (sector mask)) ws (w .layer .at)), (w .high .word, (w .low .word, tt))))))
 
-    found : body mask count .parse 3 (drop 3 ws) ≡ outAt ws 0 walked (w .low .at)
+    found : body mask count .parse headLength (drop headLength ws) ≡ outAt ws 0 walked (w .low .at)
     unfolding by-places
     found =
         rw (
           read-by-places,
-          bit-zero mask,
           ← w .is-sent,
           ← w .is-counter,
           ← w .is-layer,
@@ -106,10 +106,10 @@ module _ (mask count : ℕ) (ws : List ℕ) (long : 3 ≤ length ws) where
         )
 
     -- the ways out, by the place behind the last word
-    pub end-short : length ws < w .low .at → refusedReading 15 ≡ ended mask count (body mask count .parse 3 (drop 3 ws))
+    pub end-short : length ws < w .low .at → refusedReading 15 ≡ ended mask count (body mask count .parse headLength (drop headLength ws))
     end-short h = sym (ap (ended mask count) (found ∙ past-out ws 0 walked (w .low .at) h))
 
-    pub end-over : w .low .at < length ws → refusedReading 16 ≡ ended mask count (body mask count .parse 3 (drop 3 ws))
+    pub end-over : w .low .at < length ws → refusedReading 16 ≡ ended mask count (body mask count .parse headLength (drop headLength ws))
     end-over h =
         let whole : refusedReading 16 ≡ ended mask count (got walked (0 + w .low .at) (drop (w .low .at) ws)) = rw (drop-cons ws (w .low .at) 0 h) in
         whole ∙ sym (ap (ended mask count) (found ∙ in-out ws 0 walked (w .low .at) (omega arith)))
@@ -125,7 +125,7 @@ module _ (mask count : ℕ) (ws : List ℕ) (long : 3 ≤ length ws) where
           sectors = w .found .list;
           high = w .high .word;
           low = w .low .word;
-        } ≡ ended mask count (body mask count .parse 3 (drop 3 ws))
+        } ≡ ended mask count (body mask count .parse headLength (drop headLength ws))
     end-exact h k =
         rw (
           ap (λ (r : Sectors). r .list) (w .is-found),

@@ -8,11 +8,11 @@ use Rattle.words.specs.Words.{laidAll}
 use Rattle.words.specs.Format.{AllOk}
 use Rattle.words.proofs.Each.{each-map}
 use Rattle.layout.specs.Fields.{SectorFields, Fields}
-use Rattle.layout.specs.Layout.{layoutSector, layoutRest, layout, SectorFits, Fits, Acceptable}
+use Rattle.layout.specs.Layout.{layoutSector, contour, layout, SectorFits, Fits, Acceptable, headLength, oneLayer}
 use Rattle.reader.specs.Sectors.{sector}
-use Rattle.reader.specs.Readings.{Body, body}
+use Rattle.reader.specs.Readings.{maskIn, countIn, Body, body, infoIn}
 use Rattle.reader.proofs.Heads.{GoodHead, three}
-use Rattle.reader.proofs.Accepted.{maskIn, countIn, all-length}
+use Rattle.reader.proofs.Accepted.{all-length}
 
 -- what stands behind the first three words, and the fields with it
 abbrev pub bodyFields : Fields → Body SectorFields
@@ -34,9 +34,11 @@ all-laid : {F : Type 0} (p q : F → List ℕ) → ((f : F) → p f ≡ q f) →
 all-laid p q h [] = refl
 all-laid p q h (f ∷ fs) = rw (h f, all-laid p q h fs)
 
-pub rest-put : (mask count : ℕ) (f : Fields) → layoutRest f ≡ body mask count .put (bodyFields f)
-rest-put mask count f =
-    simp (all-laid (sector mask .put) layoutSector (λ g. simp (append-nil, append-assoc)) (f .sectors), append-nil, append-assoc)
+pub sectors-laid : (mask : ℕ) (fs : List SectorFields) → laidAll (sector mask .put) fs ≡ laidAll layoutSector fs
+sectors-laid mask fs = all-laid (sector mask .put) layoutSector (λ g. simp (append-nil, append-assoc)) fs
+
+pub rest-put : (mask count : ℕ) (f : Fields) → contour f ≡ body mask count .put (bodyFields f)
+rest-put mask count f = simp (sectors-laid mask (f .sectors), append-nil, append-assoc)
 
 sector-fits : (mask : ℕ) (s : SectorFields) → sector mask .ok s → SectorFits mask s
 sector-fits mask s o =
@@ -94,8 +96,8 @@ module _ (ws : List ℕ) (head : GoodHead ws) (b : Body SectorFields) (ok : body
       }
 
   -- words that go on as the format lays them out are laid out
-  pub laid : (more rest : List ℕ) → drop 3 ws ++ more ≡ body (maskIn ws) (countIn ws) .put b ++ rest → ws ++ more ≡ layout (fieldsOf (maskIn ws) b) ++ rest
+  pub laid : (more rest : List ℕ) → drop headLength ws ++ more ≡ body (maskIn ws) (countIn ws) .put b ++ rest → ws ++ more ≡ layout (fieldsOf (maskIn ws) b) ++ rest
   laid more rest e =
-      let third : getD ws 2 0 ≡ 0x0100 + length (b .1 .1 .1 .0) = head .third ∙ ap (λ (n : ℕ). 0x0100 + n) (sym as-many) in
+      let third : infoIn ws ≡ oneLayer + length (b .1 .1 .1 .0) = head .third ∙ ap (λ (n : ℕ). oneLayer + n) (sym as-many) in
       let behind = e ∙ ap (λ (l : List ℕ). l ++ rest) (sym (rest-put (maskIn ws) (countIn ws) (fieldsOf (maskIn ws) b))) in
       ap (λ (l : List ℕ). l ++ more) (three ws (head .long)) ∙ (λ j. head .first j ∷ maskIn ws ∷ third j ∷ behind j)

@@ -7,6 +7,8 @@ pub mod Accepted
 pub mod PointPlaces
 pub mod Laid
 pub mod RoundTrip
+pub mod HeadNumbers
 pub mod Numbers
 pub mod PointNumbers
+pub mod Standing
 pub mod ByPlace

@@ -10,12 +10,12 @@ use borrow.Author.Tests.{le-leb, lt-leb}
 use Rattle.words.specs.Parse.{Got, short, got, mapGot, timesParse}
 use Rattle.words.specs.Format.{times}
 use Rattle.words.proofs.Lawful.{Sound, SoundOf, KeptOf}
-use Rattle.reader.specs.declared.Step.{Step}
-use Rattle.reader.specs.declared.Step.the-variants.{Cut, Whole}
+use Rattle.reader.specs.declared.Found.{Found}
+use Rattle.reader.specs.declared.Found.the-variants.{Cut, Whole}
 use Rattle.reader.specs.declared.Sectors.{Sectors}
 use Rattle.reader.specs.declared.SectorReading.{SectorReading}
-use Rattle.reader.specs.Sectors.{sector, blankSector, stepOf}
-use Rattle.reader.specs.Steps.{fromPlace, SectorsRead}
+use Rattle.reader.specs.Sectors.{sector, blankSector, foundOf}
+use Rattle.reader.specs.Places.{fromPlace, SectorsRead}
 use Rattle.reader.proofs.SectorPlaces.{sector-lawful}
 
 -- the part of the words from a place on, as `&words[at..]` lends it
@@ -23,11 +23,11 @@ rest-all : (ws : List ℕ) (at : ℕ) → take (length ws - at) (drop at ws) ≡
 rest-all ws at = take-all (length ws - at) (drop at ws) (omega (arith, length-drop at ws))
 
 -- what the sector reader's answer says was found
-whole-got : (g : Got SectorReading) (s : SectorReading) (n : ℕ) → stepOf g ≡ Whole s n → (ws : List ℕ) × (g ≡ got s n ws)
+whole-got : (g : Got SectorReading) (s : SectorReading) (n : ℕ) → foundOf g ≡ Whole s n → (ws : List ℕ) × (g ≡ got s n ws)
 whole-got short s n e = absurd (let z : _≡_ {A = ℕ} 0 1 = cc in omega arith)
 whole-got (got a b ws) s n e = (ws, cc)
 
-cut-short : (g : Got SectorReading) → stepOf g ≡ Cut → g ≡ short
+cut-short : (g : Got SectorReading) → foundOf g ≡ Cut → g ≡ short
 cut-short short e = refl
 cut-short (got a b ws) e = absurd (let z : _≡_ {A = ℕ} 0 1 = cc in omega arith)
 
@@ -78,8 +78,8 @@ module _ (words : List ℕ) (mask count from : ℕ) where
         rw all at (h .found) ∙ rw (none, append-nil) in
         record { is = rw (le-leb from (length words) inside, ends) (λ j. record { at = at; list = full j }); within = omega arith }
 
-    module _ (more : k < count) (r : Step) (e : r ≡ stepOf (sector mask .parse at (take (length words - at) (drop at words)))) where
-      answered : stepOf (sector mask .parse at (drop at words)) ≡ r
+    module _ (more : k < count) (r : Found) (e : r ≡ foundOf (sector mask .parse at (take (length words - at) (drop at words)))) where
+      answered : foundOf (sector mask .parse at (drop at words)) ≡ r
       answered = rw rest-all at (sym e)
 
       -- one turn finds that the words end early

@@ -10,14 +10,15 @@ use borrow.Author.Tests.{ltb-true, ltb-false}
 use Rattle.words.specs.Lists.{some}
 use Rattle.words.proofs.Extends.{Extended, ExtendedOf}
 use Rattle.layout.specs.Fields.{Fields}
-use Rattle.layout.specs.Layout.{layout, Acceptable}
+use Rattle.layout.specs.Layout.{layout, Acceptable, headLength}
 use Rattle.reader.specs.declared.Reading.{Reading}
-use Rattle.reader.specs.Readings.{headRefusal, body, refusedReading, readOf}
+use Rattle.reader.specs.Readings.{maskIn, countIn, headRefusal, body, refusedReading, readOf}
 use Rattle.reader.specs.Stretches.{stretchRefusalOf, stretchOf}
 use Rattle.reader.specs.Demands.{EndEarly, LeftOver, RefusalsExactly, RefusalsGiveNothing, StretchNumbers}
 use Rattle.reader.proofs.Heads.{GoodHead, head-below, head-front}
+use Rattle.reader.proofs.HeadNumbers.{head-table}
 use Rattle.reader.proofs.Bodies.{body-extends}
-use Rattle.reader.proofs.Accepted.{maskIn, countIn, Parsed, Outcome, refused, cut, over, whole, by-head, outcome, has-sector}
+use Rattle.reader.proofs.Accepted.{Parsed, Outcome, refused, cut, over, whole, by-head, outcome, has-sector}
 use Rattle.reader.proofs.Laid.{fieldsOf, acceptable, laid}
 use Rattle.reader.proofs.PointPlaces.{no-stretch, refused-reading, has-stretch, past-sectors}
 use Rattle.reader.proofs.RoundTrip.{fields, fields-fit, laid-out, head-passes, reading, reads-back}
@@ -39,20 +40,30 @@ not-within f g v w more t e =
 
 module _ (ws : List ℕ) where
   -- where the body's words end early, more of them make a profile
-  early-laid : GoodHead ws → Extended (body (maskIn ws) (countIn ws)) (drop 3 ws) → EndEarly ws
+  early-laid : GoodHead ws → Extended (body (maskIn ws) (countIn ws)) (drop headLength ws) → EndEarly ws
   early-laid h t =
       let words = laid ws h (t .fields) (t .fits) (t .more) [] (t .words ∙ sym (append-nil _)) ∙ append-nil _ in
       (h .long, (fieldsOf (maskIn ws) (t .fields), t .more, acceptable ws h (t .fields) (t .fits), t .some-more, words))
+
+  -- 12 to 14 are the head's
+  is-head : {r : Reading} → Outcome ws r → (n : ℕ) → 12 ≤ n → n ≤ 14 → r .refusal ≡ n → headRefusal ws ≡ n
+  is-head (refused h) n from to e = e
+  is-head (cut h p) n from to e = absurd (omega arith)
+  is-head (over s) n from to e = absurd (omega arith)
+  is-head (whole s) n from to e = absurd (omega arith)
+
+  head-is : (n : ℕ) → 12 ≤ n → headRefusal ws ≡ n → readOf ws .refusal ≡ n
+  head-is n from e = ap (λ (r : Reading). r .refusal) (by-head ws (λ z. absurd (omega arith))) ∙ e
 
   -- 15 says that the words end early
   is-early : {r : Reading} → Outcome ws r → r .refusal ≡ 15 → EndEarly ws
   is-early (refused h) e = absurd (omega (arith, head-below ws))
   is-early (cut h p) e =
-      early-laid h (subst (ExtendedOf (body (maskIn ws) (countIn ws)) (drop 3 ws)) p (body-extends (maskIn ws) (countIn ws) .extend ws 3))
+      early-laid h (subst (ExtendedOf (body (maskIn ws) (countIn ws)) (drop headLength ws)) p (body-extends (maskIn ws) (countIn ws) .extend ws headLength))
   is-early (over s) e = absurd (omega arith)
   is-early (whole s) e = absurd (omega arith)
 
-  module _ (long : 3 ≤ length ws) (f : Fields) (more : List ℕ) (w : Acceptable f) (t : T (some more)) (is : ws ++ more ≡ layout f) where
+  module _ (long : headLength ≤ length ws) (f : Fields) (more : List ℕ) (w : Acceptable f) (t : T (some more)) (is : ws ++ more ≡ layout f) where
     -- the first three words are a profile's
     passes : headRefusal ws ≡ 0
     passes = sym (head-front ws more long) ∙ ap headRefusal (is ∙ sym (append-nil _)) ∙ head-passes f w []
@@ -97,7 +108,10 @@ module _ (ws : List ℕ) where
 pub refusals-exactly : RefusalsExactly
 refusals-exactly ws =
     record {
-      by-head = λ h. ap (λ (r : Reading). r .refusal) (by-head ws h);
+      by-head = λ n from to. (
+        λ e. head-table ws ∙ is-head ws (outcome ws) n from to e,
+        λ e. head-is ws n from (sym (head-table ws) ∙ e),
+      );
       early = (is-early ws (outcome ws), λ t. early-is ws (t .0) (t .1 .0) (t .1 .1) (t .1 .2) (t .1 .3) (t .1 .4) (outcome ws));
       over = (
         is-over ws (outcome ws),

@@ -16,13 +16,14 @@ use Rattle.words.specs.Lists.{Each, none, this}
 use Rattle.words.specs.Words.{numberOf, Shaped}
 use Rattle.words.specs.Format.{AllOk}
 use Rattle.words.proofs.Each.{each-at}
+use Rattle.layout.specs.Bits as bits
 use Rattle.layout.specs.Masks.{pointWidth}
 use Rattle.reader.specs.declared.SectorReading.{SectorReading}
 use Rattle.reader.specs.Sectors.{sector, blankSector}
-use Rattle.reader.specs.Readings.{readOf}
+use Rattle.reader.specs.Readings.{maskIn, countIn, readOf}
 use Rattle.reader.specs.Stretches.{stretchOf}
 use Rattle.reader.specs.Demands.{NoPoints}
-use Rattle.reader.proofs.Accepted.{maskIn, countIn, body-sound}
+use Rattle.reader.proofs.Accepted.{body-sound}
 use Rattle.reader.proofs.PointPlaces.{whole, found, read-there, at-place, in-words}
 
 all-mapped : {A F : Type 0} (ok : F → Type 0) (f : A → F) (n : ℕ) (xs : List A) → AllOk ok n (map f xs) → Each (λ x. ok (f x)) xs
@@ -48,8 +49,8 @@ module _ (ws : List ℕ) (place : ℕ) (here : place < readOf ws .count) where
   point-words = sym (length-take-le (at .len) (drop (at .start) ws) (rw length-drop (omega (arith, in-words ws place here)))) ∙ ok .1 .1 .1 .1 .1 .0
 
   -- bit 5 is clear
-  unnumbered : bit (maskIn ws) 5 ≡ false → at .len ≡ 0
-  unnumbered e = point-words ∙ rw (left-out (bit (maskIn ws) 5) (at .points) (ok .1 .1 .0) e, zero-mul)
+  unnumbered : bit (maskIn ws) bits.points ≡ false → at .len ≡ 0
+  unnumbered e = point-words ∙ rw (left-out (bit (maskIn ws) bits.points) (at .points) (ok .1 .1 .0) e, zero-mul)
 
   -- bits 8 to 10 are clear
   wordless : pointWidth (maskIn ws) ≡ 0 → at .len ≡ 0

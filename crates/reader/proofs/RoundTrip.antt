@@ -12,16 +12,16 @@ use Rattle.words.proofs.Tests.{is-true}
 use Rattle.words.proofs.Lawful.{Complete}
 use Rattle.layout.specs.Masks.{uncounted}
 use Rattle.layout.specs.Fields.{SectorFields, Fields}
-use Rattle.layout.specs.Layout.{layout, Acceptable}
+use Rattle.layout.specs.Layout.{layout, Acceptable, headLength, oneLayer}
 use Rattle.reader.specs.declared.SectorReading.{SectorReading}
 use Rattle.reader.specs.declared.Reading.{Reading}
 use Rattle.reader.specs.Sectors.{sector, blankSector}
-use Rattle.reader.specs.Readings.{sectorsOk, headRefusal, Body, body, acceptedReading, ended, readOf}
+use Rattle.reader.specs.Readings.{maskIn, countIn, infoOk, headRefusal, Body, body, acceptedReading, ended, readOf}
 use Rattle.reader.specs.Stretches.{fieldsIn}
 use Rattle.reader.specs.Demands.{AcceptsExactly, PutTogether, ReadsBack, OneReading}
 use Rattle.reader.proofs.Heads.{passed}
 use Rattle.reader.proofs.Bodies.{body-lawful}
-use Rattle.reader.proofs.Accepted.{maskIn, countIn, Parsed, Accepted, by-body, accepted, body-sound, many-sectors}
+use Rattle.reader.proofs.Accepted.{Parsed, Accepted, by-body, accepted, body-sound, many-sectors}
 use Rattle.reader.proofs.Laid.{bodyFields, fieldsOf, rest-put, body-ok, acceptable, laid}
 
 -- the fields of an accepted reading are what its format strips
@@ -58,21 +58,21 @@ module _ (f : Fields) (w : Acceptable f) (more : List ℕ) where
   abbrev n : ℕ
   n = length (f .sectors)
 
-  counts : (0x0100 + n) % 256 ≡ n
+  counts : (oneLayer + n) % 256 ≡ n
   counts = let h : n ≤ 8 = w .few in omega arith
 
-  third-ok : sectorsOk (0x0100 + n) ≡ true
+  third-ok : infoOk (oneLayer + n) ≡ true
   third-ok =
       let few : n ≤ 8 = w .few in
       let some : 1 ≤ n = w .some-sector in
-      rw (eq-eqb ((0x0100 + n) / 256) 1 (omega arith), counts, le-leb 1 n some, le-leb n 8 few)
+      rw (eq-eqb ((oneLayer + n) / 256) 1 (omega arith), counts, le-leb 1 n some, le-leb n 8 few)
 
   pub head-passes : headRefusal (layout f ++ more) ≡ 0
   head-passes =
       sym (passed (layout f ++ more) (λ z. omega arith) refl (omega arith) (is-true (w .mask)) third-ok refl (not-true (uncounted m) (is-true (w .counted))))
 
-  pub read-back : Complete (body m n) (layout f ++ more) 3 (bodyFields f) more
-  read-back = body-lawful m n .complete (layout f ++ more) 3 (bodyFields f) more (body-ok f (w .fits)) (ap (λ (ws : List ℕ). ws ++ more) (rest-put m n f))
+  pub read-back : Complete (body m n) (layout f ++ more) headLength (bodyFields f) more
+  read-back = body-lawful m n .complete (layout f ++ more) headLength (bodyFields f) more (body-ok f (w .fits)) (ap (λ (ws : List ℕ). ws ++ more) (rest-put m n f))
 
   pub reading : readOf (layout f ++ more) ≡ ended m n (got (read-back .value) (read-back .place) more)
   reading = rw counts at (by-body (layout f ++ more) head-passes {g = got (read-back .value) (read-back .place) more} (rw counts (read-back .reads)))

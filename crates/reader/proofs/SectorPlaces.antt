@@ -12,22 +12,23 @@ use Rattle.words.proofs.Takes.{took-within}
 use Rattle.words.proofs.Lawful.{Lawful}
 use Rattle.words.proofs.Extends.{Extends, nothing-extends, many-extends, optional-extends, join-extends, recast-extends}
 use Rattle.words.proofs.Tracks.{Tracks, outAt, in-out, past-out, nothing-tracks, many-tracks, optional-tracks, join-tracks, recast-tracks}
+use Rattle.layout.specs.Bits as bits
 use Rattle.layout.specs.Masks.{pointWidth}
-use Rattle.reader.specs.declared.Step.the-variants.{Cut, Whole}
+use Rattle.reader.specs.declared.Found.the-variants.{Cut, Whole}
 use Rattle.reader.specs.declared.SectorReading.{SectorReading}
-use Rattle.reader.specs.Sectors.{toReading, fromReading, toFields, fromFields, rawSector, sector, stepOf}
+use Rattle.reader.specs.Sectors.{toReading, fromReading, toFields, fromFields, rawSector, sector, foundOf}
 
 pub sector-extends : (mask : ℕ) → Extends (sector mask)
 sector-extends mask =
     recast-extends toReading fromReading toFields fromFields (rawSector mask)
-    (optional-extends (bit mask 3) _ λ number.
-    optional-extends (bit mask 4) _ λ step.
-    optional-extends (bit mask 5) _ λ points.
-    optional-extends (bit mask 6) _ λ tstart.
-    optional-extends (bit mask 7) _ λ startdir.
+    (optional-extends (bit mask bits.number) _ λ number.
+    optional-extends (bit mask bits.step) _ λ step.
+    optional-extends (bit mask bits.points) _ λ points.
+    optional-extends (bit mask bits.tstart) _ λ tstart.
+    optional-extends (bit mask bits.startdir) _ λ startdir.
     join-extends _ _ (many-extends (numberOf points * pointWidth mask)) (
-    optional-extends (bit mask 11) _ λ tend.
-    optional-extends (bit mask 12) _ λ enddir.
+    optional-extends (bit mask bits.tend) _ λ tend.
+    optional-extends (bit mask bits.enddir) _ λ enddir.
     nothing-extends))
     (λ a. refl) (λ g. refl) (λ f. refl)
 
@@ -43,19 +44,21 @@ pub record Walk (mask : ℕ) (ws : List ℕ) : Type 0 where
   pub startdir : Took
   pub count : ℕ
   pub width : ℕ
+  pub len : ℕ
   pub behind : ℕ
   pub tend : Took
   pub enddir : Took
-  pub is-number : number ≡ takeAt (bit mask 3) ws 0
-  pub is-step : step ≡ takeAt (bit mask 4) ws (number .at)
-  pub is-points : points ≡ takeAt (bit mask 5) ws (step .at)
-  pub is-tstart : tstart ≡ takeAt (bit mask 6) ws (points .at)
-  pub is-startdir : startdir ≡ takeAt (bit mask 7) ws (tstart .at)
+  pub is-number : number ≡ takeAt (bit mask bits.number) ws 0
+  pub is-step : step ≡ takeAt (bit mask bits.step) ws (number .at)
+  pub is-points : points ≡ takeAt (bit mask bits.points) ws (step .at)
+  pub is-tstart : tstart ≡ takeAt (bit mask bits.tstart) ws (points .at)
+  pub is-startdir : startdir ≡ takeAt (bit mask bits.startdir) ws (tstart .at)
   pub is-count : count ≡ numberOf (points .word)
   pub is-width : width ≡ pointWidth mask
-  pub is-behind : behind ≡ skipAt (count * width) ws (startdir .at)
-  pub is-tend : tend ≡ takeAt (bit mask 11) ws behind
-  pub is-enddir : enddir ≡ takeAt (bit mask 12) ws (tend .at)
+  pub is-len : len ≡ count * width
+  pub is-behind : behind ≡ skipAt len ws (startdir .at)
+  pub is-tend : tend ≡ takeAt (bit mask bits.tend) ws behind
+  pub is-enddir : enddir ≡ takeAt (bit mask bits.enddir) ws (tend .at)
 
 -- where the points start
 pub start-within : {mask : ℕ} {ws : List ℕ} (w : Walk mask ws) → w .startdir .at ≤ length ws + 1
@@ -72,14 +75,14 @@ module _ (mask base : ℕ) (ws : List ℕ) where
     _,
     _,
     recast-tracks toReading fromReading toFields fromFields (rawSector mask) {ws = ws} {base = base} {i = 0}
-        (optional-tracks (bit mask 3) _ _ _ _ _ _ λ number i₁.
-        optional-tracks (bit mask 4) _ _ _ _ _ _ λ step i₂.
-        optional-tracks (bit mask 5) _ _ _ _ _ _ λ points i₃.
-        optional-tracks (bit mask 6) _ _ _ _ _ _ λ tstart i₄.
-        optional-tracks (bit mask 7) _ _ _ _ _ _ λ startdir i₅.
+        (optional-tracks (bit mask bits.number) _ _ _ _ _ _ λ number i₁.
+        optional-tracks (bit mask bits.step) _ _ _ _ _ _ λ step i₂.
+        optional-tracks (bit mask bits.points) _ _ _ _ _ _ λ points i₃.
+        optional-tracks (bit mask bits.tstart) _ _ _ _ _ _ λ tstart i₄.
+        optional-tracks (bit mask bits.startdir) _ _ _ _ _ _ λ startdir i₅.
         join-tracks _ _ (many-tracks (numberOf points * pointWidth mask) _ _ i₅) (
-        optional-tracks (bit mask 11) _ _ _ _ _ _ λ tend i₆.
-        optional-tracks (bit mask 12) _ _ _ _ _ _ λ enddir i₇.
+        optional-tracks (bit mask bits.tend) _ _ _ _ _ _ λ tend i₆.
+        optional-tracks (bit mask bits.enddir) _ _ _ _ _ _ λ enddir i₇.
         nothing-tracks _ _ i₇)),
   )
 
@@ -96,7 +99,7 @@ module _ (mask base : ℕ) (ws : List ℕ) where
           tstart = w .tstart .word;
           startdir = w .startdir .word;
           start = base + w .startdir .at;
-          len = w .count * w .width;
+          len = w .len;
           tend = w .tend .word;
           enddir = w .enddir .word;
         }
@@ -113,13 +116,14 @@ module _ (mask base : ℕ) (ws : List ℕ) where
           ← w .is-startdir,
           ← w .is-count,
           ← w .is-width,
+          ← w .is-len,
           ← w .is-behind,
           ← w .is-tend,
           ← w .is-enddir,
         )
 
-    pub sector-cut : length ws < w .enddir .at → Cut ≡ stepOf (sector mask .parse base ws)
-    sector-cut h = sym (ap stepOf (found ∙ past-out ws base walked (w .enddir .at) h))
+    pub sector-cut : length ws < w .enddir .at → Cut ≡ foundOf (sector mask .parse base ws)
+    sector-cut h = sym (ap foundOf (found ∙ past-out ws base walked (w .enddir .at) h))
 
-    pub sector-whole : w .enddir .at ≤ length ws → Whole walked (base + w .enddir .at) ≡ stepOf (sector mask .parse base ws)
-    sector-whole h = sym (ap stepOf (found ∙ in-out ws base walked (w .enddir .at) h))
+    pub sector-whole : w .enddir .at ≤ length ws → Whole walked (base + w .enddir .at) ≡ foundOf (sector mask .parse base ws)
+    sector-whole h = sym (ap foundOf (found ∙ in-out ws base walked (w .enddir .at) h))

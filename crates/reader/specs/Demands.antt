@@ -1,21 +1,23 @@
--- What is promised of the reader, as statements. The proofs stand in proofs/RoundTrip.antt, Numbers.antt, PointNumbers.antt and, of the
--- last, ByPlace.antt.
+-- What is promised of the reader, as statements. The proofs stand in proofs/RoundTrip.antt, Numbers.antt, PointNumbers.antt, Standing.antt
+-- and, of the last, ByPlace.antt.
 use mathlib.Core.Path.{_≡_}
 use mathlib.Core.Logic.{_↔_, _⊎_}
-use mathlib.Core.Bool.{false}
+use mathlib.Core.Bool.{false, not, _&&_, _||_}
 use mathlib.Core.List.{List, [], _∷_, _++_}
-use Prim.Native.Nat.{ℕ, _≤_, _<_}
-use lib.Dec.{T}
+use Prim.Native.Nat.{ℕ, _/_, _%_, _≤_, _<_}
+use lib.Dec.{T, eqb, ltb}
 use lib.ListN.{length, getD}
 use Rattle.words.specs.Bits.{bit}
 use Rattle.words.specs.Lists.{some}
+use Rattle.words.specs.Numbers.{No, no, firstOf}
 use Rattle.words.specs.Words.{numberOf}
+use Rattle.layout.specs.Bits as bits
 use Rattle.layout.specs.Masks.{pointWidth}
 use Rattle.layout.specs.Fields.{Fields}
 use Rattle.layout.specs.Layout.{layout, Acceptable}
-use Rattle.reader.specs.Readings.{headRefusal, refusedReading, readOf}
+use Rattle.reader.specs.Readings.{maskIn, refusedReading, readOf}
 use Rattle.reader.specs.Sectors.{blankSector}
-use Rattle.reader.specs.Stretches.{stretchRefusalOf, stretchOf, fieldsIn, together}
+use Rattle.reader.specs.Stretches.{stretchRefusalOf, stretchOf, stretchStart, fieldsIn, wordsBefore, together}
 
 -- the reader takes a list of words exactly when it is the layout of such fields
 abbrev pub AcceptsExactly : Type 0
@@ -41,16 +43,35 @@ EndEarly ws = (3 ≤ length ws) × ((f : Fields) × (more : List ℕ) × Accepta
 abbrev pub LeftOver : List ℕ → Type 0
 LeftOver ws = (f : Fields) × (more : List ℕ) × Acceptable f × T (some more) × (ws ≡ layout f ++ more)
 
--- 'Numbers for no' 12 to 16, "as numbered", each given exactly then: 12 to 14 go by the first three words
+-- the table of numbers 12 to 14: no word, or another first one; fewer than 3 words, mask 0 or with a reserved bit, another number of
+-- layers than 1, or of sectors than 1 to 8; words of points without their number
+abbrev pub headNumbers : List ℕ → List No
+headNumbers ws =
+    let mask = getD ws 1 0 in
+    let info = getD ws 2 0 in
+    no 12 (eqb (length ws) 0 || not (eqb (getD ws 0 0) 0x8301))
+    ∷ no 13 (
+    ltb (length ws) 3
+    || eqb mask 0
+    || bit mask 14
+    || bit mask 15
+    || not (eqb (info / 256) 1)
+    || ltb (info % 256) 1
+    || ltb 8 (info % 256)
+    )
+    ∷ no 14 ((bit mask 8 || bit mask 9 || bit mask 10) && not (bit mask 5))
+    ∷ []
+
+-- each number of the reader is given exactly then: the first of those that is due; 15 and 16, which come behind them
 pub record Numbered (ws : List ℕ) : Type 0 where
-  pub by-head : (headRefusal ws ≡ 0 → ⊥) → readOf ws .refusal ≡ headRefusal ws
+  pub by-head : (n : ℕ) → 12 ≤ n → n ≤ 14 → (readOf ws .refusal ≡ n) ↔ (firstOf (headNumbers ws) ≡ n)
   pub early : (readOf ws .refusal ≡ 15) ↔ EndEarly ws
   pub over : (readOf ws .refusal ≡ 16) ↔ LeftOver ws
 
 abbrev pub RefusalsExactly : Type 0
 RefusalsExactly = (ws : List ℕ) → Numbered ws
 
--- of a stretch: "reads the words first, so 12 to 16 come before 17", and 17 exactly where the place is not below S
+-- of a stretch: the reader's number where it has one, else 17 exactly where there is no sector at the place
 pub record Placed (ws : List ℕ) (place : ℕ) : Type 0 where
   pub words-first : (readOf ws .refusal ≡ 0 → ⊥) → stretchRefusalOf ws place ≡ readOf ws .refusal
   pub not-below : readOf ws .refusal ≡ 0 → readOf ws .count ≤ place → stretchRefusalOf ws place ≡ 17
@@ -59,7 +80,7 @@ pub record Placed (ws : List ℕ) (place : ℕ) : Type 0 where
 abbrev pub StretchNumbers : Type 0
 StretchNumbers = (ws : List ℕ) (place : ℕ) → Placed ws place
 
--- "A refused reading has every field absent and each place and length 0; a refused stretch is empty."
+-- a reading with a number for no has nothing else, and a stretch with one is empty
 pub record Blank (ws : List ℕ) : Type 0 where
   pub reading : (readOf ws .refusal ≡ 0 → ⊥) → readOf ws ≡ refusedReading (readOf ws .refusal)
   pub stretch : (place : ℕ) → (stretchRefusalOf ws place ≡ 0 → ⊥) → stretchOf ws place ≡ []
@@ -67,16 +88,20 @@ pub record Blank (ws : List ℕ) : Type 0 where
 abbrev pub RefusalsGiveNothing : Type 0
 RefusalsGiveNothing = (ws : List ℕ) → Blank ws
 
--- "With bit 5 clear, or bits 8 to 10 clear, the stretch is empty"
+-- no number of points, or no word of a point: the stretch is empty
 abbrev pub NoPoints : Type 0
 NoPoints =
-    (ws : List ℕ) (place : ℕ) → place < readOf ws .count → (bit (getD ws 1 0) 5 ≡ false) ⊎ (pointWidth (getD ws 1 0) ≡ 0)
+    (ws : List ℕ) (place : ℕ) → place < readOf ws .count → (bit (maskIn ws) bits.points ≡ false) ⊎ (pointWidth (maskIn ws) ≡ 0)
     → stretchOf ws place ≡ []
+
+-- a sector's points stand at the place reached, whether there are any or not
+abbrev pub StandsAtPlace : Type 0
+StandsAtPlace = (ws : List ℕ) (place : ℕ) → place < readOf ws .count → stretchStart ws place ≡ length (wordsBefore ws (readOf ws) place)
 
 -- two sectors of one distance each, whose number words stand the wrong way round
 abbrev pub turnedRound : List ℕ
 turnedRound = 0x8301 ∷ 0x0128 ∷ 0x0102 ∷ 1 ∷ 1 ∷ 500 ∷ 0 ∷ 1 ∷ 600 ∷ []
 
--- the sector's place, "whatever word 3 of it says": a stretch that goes by the sector's own number word is another one
+-- a stretch that goes by the sector's own number word is another one
 abbrev pub NotByNumber : Type 0
 NotByNumber = stretchOf turnedRound (numberOf (getD (readOf turnedRound .sectors) 0 blankSector .number)) ≡ stretchOf turnedRound 0 → ⊥

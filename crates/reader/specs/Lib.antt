@@ -1,6 +1,6 @@
 -- To be read in this order.
 pub mod Sectors
 pub mod Readings
-pub mod Steps
+pub mod Places
 pub mod Stretches
 pub mod Demands

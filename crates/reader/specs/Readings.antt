@@ -1,4 +1,5 @@
 -- Document 01, 'A revolution and its profile' and 'Numbers for no' 12 to 16: what the reader gives for a list of words.
+use mathlib.Core.Path.{_≡_}
 use mathlib.Core.Bool.{Bool, not, _&&_}
 use mathlib.Core.List.{List, [], _∷_, _++_}
 use Prim.Native.Nat.{ℕ, _-_, _/_, _%_}
@@ -11,23 +12,38 @@ use Rattle.words.specs.Lists.{some}
 use Rattle.words.specs.Bits.{bit}
 use Rattle.words.specs.Parse.{Got, short, got}
 use Rattle.words.specs.Format.{Format, nothing, optional, join, times}
+use Rattle.layout.specs.Bits as bits
 use Rattle.layout.specs.Masks.{maskOk, uncounted}
 use Rattle.layout.specs.Fields.{SectorFields}
+use Rattle.layout.specs.Layout.{profileCode, headLength}
 use Rattle.reader.specs.declared.SectorReading.{SectorReading}
 use Rattle.reader.specs.declared.Reading.{Reading}
 use Rattle.reader.specs.Sectors.{sector, blankSector}
 
--- "high byte of word 2 not 1, or S not 1 to 8", turned round
-abbrev pub sectorsOk : ℕ → Bool
-sectorsOk info = eqb (info / 256) 1 && leb 1 (info % 256) && leb (info % 256) 8
+-- the second word; the third; and the number of sectors, its low byte
+abbrev pub maskIn : List ℕ → ℕ
+maskIn ws = getD ws 1 0
 
--- 12 "no word, or first is not 8301h"; 13 "under 3 words, mask 0 or with bit 14 or 15, high byte of word 2 not 1, or S not 1 to 8";
--- 14; 0 for none of these
+abbrev pub infoIn : List ℕ → ℕ
+infoIn ws = getD ws 2 0
+
+abbrev pub countIn : List ℕ → ℕ
+countIn ws = infoIn ws % 256
+
+-- the third word: one layer, its high byte, and 1 to 8 sectors
+abbrev pub infoOk : ℕ → Bool
+infoOk info = eqb (info / 256) 1 && leb 1 (info % 256) && leb (info % 256) 8
+
+-- the words begin as a profile does, and the words that depend on no bit are there and such as a profile has
+abbrev pub begins : List ℕ → Bool
+begins ws = some ws && eqb (getD ws 0 0) profileCode
+
+abbrev pub formed : List ℕ → Bool
+formed ws = leb headLength (length ws) && maskOk (maskIn ws) && infoOk (infoIn ws)
+
+-- 12 to 14, by these words; 0 for none
 unfoldable pub headRefusal : List ℕ → ℕ
-headRefusal ws =
-    if not (some ws && eqb (getD ws 0 0) 0x8301) then 12 else
-    if not (leb 3 (length ws) && maskOk (getD ws 1 0) && sectorsOk (getD ws 2 0)) then 13 else
-    if uncounted (getD ws 1 0) then 14 else 0
+headRefusal ws = if not (begins ws) then 12 else if not (formed ws) then 13 else if uncounted (maskIn ws) then 14 else 0
 
 -- what stands behind the first three words, with the sectors as S has them
 abbrev pub Body : Type 0 → Type 0
@@ -35,19 +51,19 @@ Body S = Word × (Word × (Word × (List S × (Word × (Word × Unit {0})))))
 
 abbrev pub body : ℕ → ℕ → Format (Body SectorReading) (Body SectorFields)
 body mask count =
-    optional (bit mask 0) λ sent.
-    optional (bit mask 1) λ counter.
-    optional (bit mask 2) λ layer.
+    optional (bit mask bits.sent) λ sent.
+    optional (bit mask bits.counter) λ counter.
+    optional (bit mask bits.layer) λ layer.
     join (times count (sector mask)) (
-    optional (bit mask 13) λ high.
-    optional (bit mask 13) λ low.
+    optional (bit mask bits.senstat) λ high.
+    optional (bit mask bits.senstat) λ low.
     nothing)
 
 -- eight entries
 abbrev pub padded : List SectorReading → List SectorReading
 padded xs = xs ++ replicate (8 - length xs) blankSector
 
--- "A refused reading has every field absent and each place and length 0"
+-- with a number for no, and nothing else
 abbrev pub refusedReading : ℕ → Reading
 refusedReading refusal =
     record {
@@ -76,15 +92,19 @@ acceptedReading mask count a =
       low = a .1 .1 .1 .1 .1 .0;
     }
 
--- 15 "words end early", 16 "words left over"
+-- 15 where the words end early, 16 where words are left over
 abbrev pub ended : ℕ → ℕ → Got (Body SectorReading) → Reading
 ended mask count short = refusedReading 15
 ended mask count (got a place []) = acceptedReading mask count a
 ended mask count (got a place (w ∷ ws)) = refusedReading 16
 
 unfoldable pub bodyOf : List ℕ → Reading
-bodyOf ws = ended (getD ws 1 0) (getD ws 2 0 % 256) (body (getD ws 1 0) (getD ws 2 0 % 256) .parse 3 (drop 3 ws))
+bodyOf ws = ended (maskIn ws) (countIn ws) (body (maskIn ws) (countIn ws) .parse headLength (drop headLength ws))
 
 -- what the reader gives
 unfoldable pub readOf : List ℕ → Reading
 readOf ws = if eqb (headRefusal ws) 0 then bodyOf ws else refusedReading (headRefusal ws)
+
+-- what is promised of `read`
+abbrev pub ReadSays : List ℕ → Reading → Type 0
+ReadSays ws r = r ≡ readOf ws

@@ -7,11 +7,12 @@ use Rattle.words.specs.Bits.{bit}
 use Rattle.words.specs.Words.{numberOf}
 use Rattle.words.specs.Parse.{Span, Got, short, got}
 use Rattle.words.specs.Format.{Format, nothing, many, optional, join, recast}
+use Rattle.layout.specs.Bits as bits
 use Rattle.layout.specs.Masks.{pointWidth}
 use Rattle.layout.specs.Fields.{SectorFields}
 use Rattle.reader.specs.declared.SectorReading.{SectorReading}
-use Rattle.reader.specs.declared.Step.{Step}
-use Rattle.reader.specs.declared.Step.the-variants.{Cut, Whole}
+use Rattle.reader.specs.declared.Found.{Found}
+use Rattle.reader.specs.declared.Found.the-variants.{Cut, Whole}
 
 -- a sector's words one by one, with its points as S has them: a place and a length, or the words themselves
 abbrev pub Raw : Type 0 → Type 0
@@ -32,7 +33,9 @@ toReading a =
     }
 
 abbrev pub fromReading : SectorReading → Raw Span
-fromReading r = (r .number, (r .step, (r .points, (r .tstart, (r .startdir, (record { start = r .start; len = r .len }, (r .tend, (r .enddir, tt))))))))
+fromReading r =
+    let points : Span = record { start = r .start; len = r .len } in
+    (r .number, (r .step, (r .points, (r .tstart, (r .startdir, (points, (r .tend, (r .enddir, tt))))))))
 
 abbrev pub toFields : Raw (List ℕ) → SectorFields
 toFields a =
@@ -53,20 +56,20 @@ fromFields r = (r .number, (r .step, (r .points, (r .tstart, (r .startdir, (r .b
 -- the layout's order: the words that the mask selects, and as many words of points as their number says
 abbrev pub rawSector : ℕ → Format (Raw Span) (Raw (List ℕ))
 rawSector mask =
-    optional (bit mask 3) λ number.
-    optional (bit mask 4) λ step.
-    optional (bit mask 5) λ points.
-    optional (bit mask 6) λ tstart.
-    optional (bit mask 7) λ startdir.
+    optional (bit mask bits.number) λ number.
+    optional (bit mask bits.step) λ step.
+    optional (bit mask bits.points) λ points.
+    optional (bit mask bits.tstart) λ tstart.
+    optional (bit mask bits.startdir) λ startdir.
     join (many (numberOf points * pointWidth mask)) (
-    optional (bit mask 11) λ tend.
-    optional (bit mask 12) λ enddir.
+    optional (bit mask bits.tend) λ tend.
+    optional (bit mask bits.enddir) λ enddir.
     nothing)
 
 abbrev pub sector : ℕ → Format SectorReading SectorFields
 sector mask = recast toReading fromReading toFields fromFields (rawSector mask)
 
--- an entry with no sector: "every field absent and each place and length 0"
+-- an entry with no sector
 abbrev pub blankSector : SectorReading
 blankSector =
     record {
@@ -82,6 +85,6 @@ blankSector =
     }
 
 -- what the sector reader answers: the words ended early, or the sector and the place behind it
-abbrev pub stepOf : Got SectorReading → Step
-stepOf short = Cut
-stepOf (got s place ws) = Whole s place
+abbrev pub foundOf : Got SectorReading → Found
+foundOf short = Cut
+foundOf (got s place ws) = Whole s place

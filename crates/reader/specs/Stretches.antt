@@ -1,30 +1,45 @@
--- Document 01, 'A revolution and its profile': the points of a sector "as a stretch of the host's own words, asked by the sector's
--- place", and the words put together again.
-use mathlib.Core.List.{List, [], map}
-use Prim.Native.Nat.{ℕ}
+-- Document 01, 'A revolution and its profile': the points of a sector, a part of the words given that is asked by the sector's place; and
+-- the words put together again.
+use mathlib.Core.Path.{_≡_}
+use mathlib.Core.List.{List, [], _++_, map}
+use Prim.Native.Nat.{ℕ, _+_, _*_}
 use lib.Dec.{ltb, eqb}
-use lib.ListN.{getD, take, drop}
+use lib.ListN.{length, getD, take, drop}
+use denote.Ref.{RefT, ptr, now}
 use Rattle.words.specs.Choice.{if_then_else_}
-use Rattle.words.specs.Words.{numberOf}
+use Rattle.words.specs.Words.{numberOf, laidAll}
 use Rattle.layout.specs.Fields.{SectorFields, Fields}
-use Rattle.layout.specs.Layout.{layout}
+use Rattle.layout.specs.Layout.{head, opening, layoutSector, front, layout}
 use Rattle.reader.specs.declared.SectorReading.{SectorReading}
 use Rattle.reader.specs.declared.Reading.{Reading}
 use Rattle.reader.specs.Sectors.{blankSector}
 use Rattle.reader.specs.Readings.{readOf}
 
--- "reads the words first, so 12 to 16 come before 17", "place not below S"
+-- the words are read first; 17 where there is no sector at the place
 unfoldable pub stretchRefusalOf : List ℕ → ℕ → ℕ
 stretchRefusalOf ws place =
     if eqb (readOf ws .refusal) 0 then (if ltb place (readOf ws .count) then 0 else 17) else readOf ws .refusal
+
+-- what is promised of `stretch_refusal`
+abbrev pub StretchRefusalSays : List ℕ → ℕ → ℕ → Type 0
+StretchRefusalSays ws place r = r ≡ stretchRefusalOf ws place
 
 -- where a sector's points stand in the words
 abbrev pub stretchIn : List ℕ → SectorReading → List ℕ
 stretchIn ws s = take (s .len) (drop (s .start) ws)
 
--- the stretch; "a refused stretch is empty"
+-- the stretch, empty where there is a number for no
 unfoldable pub stretchOf : List ℕ → ℕ → List ℕ
 stretchOf ws place = if ltb place (readOf ws .count) then stretchIn ws (getD (readOf ws .sectors) place blankSector) else []
+
+-- where it begins, counted in words from the first one given; 0 where there is a number for no
+unfoldable pub stretchStart : List ℕ → ℕ → ℕ
+stretchStart ws place = if ltb place (readOf ws .count) then getD (readOf ws .sectors) place blankSector .start else 0
+
+-- what is promised of `stretch`: which words it lends, and that they are the caller's own, two bytes each, from that place on
+pub record StretchSays (words : RefT (List ℕ)) (place : ℕ) (r : RefT (List ℕ)) : Type 0 where
+  pub lends : now r ≡ stretchOf (now words) place
+  pub stands : ptr r ≡ (ptr words .0, stretchStart (now words) place * 2 + ptr words .1)
 
 -- a reading's fields, with each sector's stretch of points
 abbrev pub sectorIn : List ℕ → SectorReading → SectorFields
@@ -52,6 +67,15 @@ fieldsIn ws r =
       low = r .low;
     }
 
--- "Put together again means: the layout's order above, filled from the reading's fields and from each sector's stretch of points"
+-- the words in front of a sector's points: those before the sectors, the sectors before it, and its own opening
+abbrev pub wordsBefore : List ℕ → Reading → ℕ → List ℕ
+wordsBefore ws r place =
+    let f = fieldsIn ws r in
+    head (f .mask) (length (f .sectors))
+    ++ front f
+    ++ laidAll layoutSector (take place (f .sectors))
+    ++ opening (sectorIn ws (getD (r .sectors) place blankSector))
+
+-- put together again: the layout of those fields
 abbrev pub together : List ℕ → List ℕ
 together ws = layout (fieldsIn ws (readOf ws))

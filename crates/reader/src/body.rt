@@ -1,10 +1,12 @@
 // A whole profile.
 ghost use mathlib.Core.Path.{_≡_};
-ghost use Rattle.reader.specs.Readings.{headRefusal, refusedReading, bodyOf, readOf};
+ghost use Rattle.reader.specs.Readings.{headRefusal, refusedReading, bodyOf, ReadSays};
 use crate::Reading;
 use crate::head::head_refusal;
 use crate::sector::blank;
 use crate::sector::read_sectors;
+use layout::HEAD;
+use layout::bits;
 use words::Word;
 use words::take_word;
 
@@ -30,14 +32,15 @@ fn read_body(words: &[u16]) -> Reading
     requires { ⌜ headRefusal (now words) ≡ 0 ⌝ }
     ensures { λ r. ⌜ r ≡ bodyOf (now (words .entry)) ⌝ }
 {
-    let mask = words[1];
+    let selected = words[1];
+    let mask = selected as u32;
     let count = (words[2] % 256) as usize;
-    let sent = take_word(words, 3, mask % 2 == 1);
-    let counter = take_word(words, sent.at, mask / 2 % 2 == 1);
-    let layer = take_word(words, counter.at, mask / 4 % 2 == 1);
+    let sent = take_word(words, HEAD, mask, bits::SENT);
+    let counter = take_word(words, sent.at, mask, bits::COUNTER);
+    let layer = take_word(words, counter.at, mask, bits::LAYER);
     let found = read_sectors(words, mask, count, layer.at);
-    let high = take_word(words, found.at, mask / 8192 % 2 == 1);
-    let low = take_word(words, high.at, mask / 8192 % 2 == 1);
+    let high = take_word(words, found.at, mask, bits::SENSTAT);
+    let low = take_word(words, high.at, mask, bits::SENSTAT);
     if words.len() < low.at {
         return refused(15);
     }
@@ -52,7 +55,7 @@ fn read_body(words: &[u16]) -> Reading
     let low_word = low.word;
     Reading {
         refusal: 0,
-        mask: Word::Given(mask),
+        mask: Word::Given(selected),
         sent: sent_word,
         counter: counter_word,
         layer: layer_word,
@@ -65,7 +68,7 @@ fn read_body(words: &[u16]) -> Reading
 
 // Reads a profile.
 pub fn read(words: &[u16]) -> Reading
-    ensures { λ r. ⌜ r ≡ readOf (now (words .entry)) ⌝ }
+    ensures { λ r. ⌜ ReadSays (now (words .entry)) r ⌝ }
 {
     let refusal = head_refusal(words);
     if refusal != 0 {

@@ -1,11 +1,12 @@
 // The first three words: refusals 12 to 14.
 ghost use mathlib.Core.Path.{_≡_};
-ghost use Rattle.reader.specs.Readings.{sectorsOk, headRefusal};
-ghost use Rattle.layout.specs.Masks.{uncounted};
+ghost use Rattle.reader.specs.Readings.{infoOk, headRefusal};
+use layout::HEAD;
+use layout::PROFILE_CODE;
 
-// The third word's high byte is 1, and its low byte, the number of sectors, 1 to 8.
-fn sectors_ok(info: u16) -> bool
-    ensures { λ r. ⌜ r ≡ sectorsOk info ⌝ }
+// The third word: its high byte, the layers, is 1, and its low byte, the number of sectors, 1 to 8.
+fn info_ok(info: u16) -> bool
+    ensures { λ r. ⌜ r ≡ infoOk info ⌝ }
 {
     if info / 256 != 1 {
         return false;
@@ -16,16 +17,6 @@ fn sectors_ok(info: u16) -> bool
     info % 256 <= 8
 }
 
-// A bit of 8 to 10 is set, and bit 5 is clear.
-fn is_uncounted(mask: u16) -> bool
-    ensures { λ r. ⌜ r ≡ uncounted mask ⌝ }
-{
-    if layout::point_width(mask) == 0 {
-        return false;
-    }
-    mask / 32 % 2 != 1
-}
-
 // Refusals 12 to 14, 0 for none.
 pub(crate) fn head_refusal(words: &[u16]) -> u16
     ensures { λ r. ⌜ r ≡ headRefusal (now (words .entry)) ⌝ }
@@ -33,19 +24,20 @@ pub(crate) fn head_refusal(words: &[u16]) -> u16
     if words.len() == 0 {
         return 12;
     }
-    if words[0] != 0x8301 {
+    if words[0] != PROFILE_CODE {
         return 12;
     }
-    if words.len() < 3 {
+    if words.len() < HEAD {
         return 13;
     }
-    if !layout::mask_ok(words[1]) {
+    let mask = words[1] as u32;
+    if !layout::mask_ok(mask) {
         return 13;
     }
-    if !sectors_ok(words[2]) {
+    if !info_ok(words[2]) {
         return 13;
     }
-    if is_uncounted(words[1]) {
+    if layout::is_uncounted(mask) {
         return 14;
     }
     0

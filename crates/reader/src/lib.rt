@@ -37,13 +37,13 @@ pub struct Reading {
 }
 
 // What reading a sector finds: that the words end early, or the sector and the place behind it.
-pub enum Step {
+pub(crate) enum Found {
     Cut,
     Whole(SectorReading, usize),
 }
 
 // What reading the sectors finds: the place behind them, one past the end where the words end early, and the sectors.
-pub struct Sectors {
+pub(crate) struct Sectors {
     pub at: usize,
     pub list: [SectorReading; 8],
 }

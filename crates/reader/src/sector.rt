@@ -3,22 +3,24 @@ ghost use mathlib.Core.Path.{_≡_};
 ghost use Prim.Native.Nat.{_+_, _^_, _≤_, _<_};
 ghost use lib.ListN.{length, replicate};
 ghost use Rattle.words.specs.Words.{numberOf};
-ghost use Rattle.reader.specs.Sectors.{sector, blankSector, stepOf};
-ghost use Rattle.reader.specs.Steps.{SectorsRead};
+ghost use Rattle.reader.specs.Sectors.{sector, blankSector, foundOf};
+ghost use Rattle.reader.specs.Places.{SectorsRead};
+use crate::Found;
 use crate::SectorReading;
 use crate::Sectors;
-use crate::Step;
+use layout::bits;
 use words::Word;
+use words::product;
 use words::skip;
 use words::take_word;
 
 // A word's number, 0 where it is absent.
-fn number_of(word: Word) -> usize
-    ensures { λ r. ⌜ (r ≡ numberOf word) × (r < 65536) ⌝ }
+fn number_of(word: Word) -> u16
+    ensures { λ r. ⌜ r ≡ numberOf word ⌝ }
 {
     match word {
         Word::Absent => 0,
-        Word::Given(n) => n as usize,
+        Word::Given(n) => n,
     }
 }
 
@@ -40,30 +42,30 @@ pub(crate) fn blank() -> SectorReading
 }
 
 // The sector whose first word is the first of rest; base is where that word stands in the words given.
-fn read_sector(rest: &[u16], mask: u16, base: usize) -> Step
+fn read_sector(rest: &[u16], mask: u32, base: usize) -> Found
     requires { ⌜ base + length (now rest) < 2 ^ 63 ⌝ }
-    ensures { λ r. ⌜ r ≡ stepOf (sector mask .parse base (now (rest .entry))) ⌝ }
+    ensures { λ r. ⌜ r ≡ foundOf (sector mask .parse base (now (rest .entry))) ⌝ }
 {
-    let number = take_word(rest, 0, mask / 8 % 2 == 1);
-    let step = take_word(rest, number.at, mask / 16 % 2 == 1);
-    let points = take_word(rest, step.at, mask / 32 % 2 == 1);
-    let tstart = take_word(rest, points.at, mask / 64 % 2 == 1);
-    let startdir = take_word(rest, tstart.at, mask / 128 % 2 == 1);
+    let number = take_word(rest, 0, mask, bits::NUMBER);
+    let step = take_word(rest, number.at, mask, bits::STEP);
+    let points = take_word(rest, step.at, mask, bits::POINTS);
+    let tstart = take_word(rest, points.at, mask, bits::TSTART);
+    let startdir = take_word(rest, tstart.at, mask, bits::STARTDIR);
     let number_word = number.word;
     let step_word = step.word;
     let points_word = points.word;
     let tstart_word = tstart.word;
     let startdir_word = startdir.word;
-    let len = number_of(points_word) * layout::point_width(mask) as usize;
+    let len = product(number_of(points_word), layout::point_width(mask)) as usize;
     let behind = skip(rest, startdir.at, len);
-    let tend = take_word(rest, behind, mask / 2048 % 2 == 1);
-    let enddir = take_word(rest, tend.at, mask / 4096 % 2 == 1);
+    let tend = take_word(rest, behind, mask, bits::TEND);
+    let enddir = take_word(rest, tend.at, mask, bits::ENDDIR);
     let tend_word = tend.word;
     let enddir_word = enddir.word;
     if rest.len() < enddir.at {
-        return Step::Cut;
+        return Found::Cut;
     }
-    Step::Whole(
+    Found::Whole(
         SectorReading {
             number: number_word,
             step: step_word,
@@ -90,7 +92,7 @@ fn no_sectors(at: usize) -> Sectors
 }
 
 // So many sectors from a place on, which is one past the end where the words have ended early.
-pub(crate) fn read_sectors(words: &[u16], mask: u16, count: usize, from: usize) -> Sectors
+pub(crate) fn read_sectors(words: &[u16], mask: u32, count: usize, from: usize) -> Sectors
     requires { ⌜ (from ≤ length (now words) + 1) × (count ≤ 8) ⌝ }
     ensures { λ r. ⌜ SectorsRead (now (words .entry)) mask count from r ⌝ }
 {
@@ -101,7 +103,7 @@ pub(crate) fn read_sectors(words: &[u16], mask: u16, count: usize, from: usize) 
     let mut at = from;
     let mut k: usize = 0;
     while k < count {
-        let Step::Whole(sector, next) = read_sector(&words[at..], mask, at) else {
+        let Found::Whole(sector, next) = read_sector(&words[at..], mask, at) else {
             return no_sectors(words.len() + 1);
         };
         list[k] = sector;

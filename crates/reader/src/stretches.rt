@@ -1,11 +1,10 @@
 // The points of a sector, as a stretch of the caller's own words.
-ghost use mathlib.Core.Path.{_≡_};
-ghost use Rattle.reader.specs.Stretches.{stretchRefusalOf, stretchOf};
+ghost use Rattle.reader.specs.Stretches.{StretchRefusalSays, StretchSays};
 use crate::body::read;
 
 // The number for no of the call below, on the same words and place; 0 for none.
 pub fn stretch_refusal(words: &[u16], place: usize) -> u16
-    ensures { λ r. ⌜ r ≡ stretchRefusalOf (now (words .entry)) place ⌝ }
+    ensures { λ r. ⌜ StretchRefusalSays (now (words .entry)) place r ⌝ }
 {
     let reading = read(words);
     if reading.refusal != 0 {
@@ -19,7 +18,7 @@ pub fn stretch_refusal(words: &[u16], place: usize) -> u16
 
 // The points of the sector at a place, a part of the words given; empty where there is a number for no.
 pub fn stretch(words: &[u16], place: usize) -> &[u16]
-    ensures { λ r. ⌜ now r ≡ stretchOf (now (words .entry)) place ⌝ }
+    ensures { λ r. ⌜ StretchSays (words .entry) place r ⌝ }
 {
     let reading = read(words);
     if place < reading.count {

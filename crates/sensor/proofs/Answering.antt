@@ -1,7 +1,8 @@
 -- From a code to its service, from the words to the outcome, and from the outcome to what is handed back.
-use mathlib.Core.Path.{_≡_}
+use mathlib.Core.Path.{_≡_, ap}
+use mathlib.Core.Logic.{inl, inr}
 use mathlib.Core.List.{List}
-use Prim.Native.Nat.{ℕ, _≤_, _<_}
+use Prim.Native.Nat.{ℕ, _%_, _≤_, _<_}
 use lib.ListN.{length, getD, take}
 use borrow.Author.Tests.{eq-eqb, ne-eqb}
 use Rattle.words.specs.Buffers.{over}
@@ -10,35 +11,43 @@ use Rattle.state.specs.declared.Reply.{Reply}
 use Rattle.state.specs.Replies.{delivered, Answered}
 use Rattle.state.proofs.Delivery.{reply, is-refused, no-room, has-room}
 use Rattle.services.specs.declared.Served.{Served}
-use Rattle.services.specs.Answers.{Gives, unpacked}
+use Rattle.services.specs.Answers.{longest, Gives, unpacked}
 use Rattle.services.proofs.Packing.{unpacked-long, unpacks}
 use Rattle.sensor.specs.declared.Service.{Service}
-use Rattle.sensor.specs.Table.{serviceOf, outcomeOf}
+use Rattle.sensor.specs.Table.{rowOf, response, serviceOf, outcomeOf}
 use Rattle.sensor.specs.Requests.{requestRefusal, outcome, requestOf}
+use Rattle.sensor.proofs.Codes.{Has, service-has, response-is}
 
 -- `service_of`: an arm is the code's service
 pub code-is : (code k : ℕ) (v : Service) → code ≡ k → v ≡ serviceOf k → v ≡ serviceOf code
 code-is code k v e q = rw e q
 
--- `serve`: an arm is the service's outcome
-pub service-is : (r : Served) (v w : Service) (s : State) (a b c d : ℕ) → v ≡ w → Gives r (outcomeOf w s a b c d)
-    → Gives r (outcomeOf v s a b c d)
-service-is r v w s a b c d e g = rw e g
+-- `serve`: an arm is what the service does
+pub service-is : (r : Served) (v w : Service) (s : State) (code a b c d : ℕ) → v ≡ w → Gives r (rowOf w .does s code a b c d)
+    → Gives r (rowOf v .does s code a b c d)
+service-is r v w s code a b c d e g = rw e g
 
--- `serve_words`
-pub words-served : (r : Served) (s : State) (ws : List ℕ) (code a b c d : ℕ) (v : Service) → Gives r (outcomeOf v s a b c d)
-    → v ≡ serviceOf code → code ≡ getD ws 0 0 → a ≡ getD ws 1 0 → b ≡ getD ws 2 0 → c ≡ getD ws 3 0 → d ≡ getD ws 4 0 → Gives r (outcome s ws)
+-- `serve_words`: the code is answered by the service's response code
+answered-so : (code : ℕ) (v : Service) → Has code v → (s : State) (a b c d : ℕ)
+    → rowOf v .does s (response code % 65536) a b c d ≡ outcomeOf v s a b c d
+answered-so code v (inl h) s a b c d = ap (λ (n : ℕ). rowOf v .does s n a b c d) (response-is code v (h .0) (h .1))
+answered-so code v (inr e) s a b c d = rw e
+
+pub words-served : (r : Served) (s : State) (ws : List ℕ) (code n a b c d : ℕ) (v : Service) → Gives r (rowOf v .does s n a b c d)
+    → v ≡ serviceOf code → n ≡ response code % 65536 → code ≡ getD ws 0 0
+    → a ≡ getD ws 1 0 → b ≡ getD ws 2 0 → c ≡ getD ws 3 0 → d ≡ getD ws 4 0 → Gives r (outcome s ws)
 unfolding outcome
-words-served r s ws code a b c d v g ev e0 e1 e2 e3 e4 = rw (ev, e0, e1, e2, e3, e4) at g
+words-served r s ws code n a b c d v g ev en e0 e1 e2 e3 e4 =
+    rw (← e0, ← e1, ← e2, ← e3, ← e4, ← answered-so code (serviceOf code) (service-has code) s a b c d) (rw (ev, en) at g)
 
 -- `deliver`
-module _ (v : Served) (s : State) (d : List ℕ) (five : length (v .words) ≡ 5) (short : v .count ≤ 5) where
+module _ (v : Served) (s : State) (d : List ℕ) (long : length (v .words) ≡ longest) (short : v .count ≤ longest) where
   pub too-long : length d < v .count → Answered (reply s 6 0) d d (delivered s (unpacked v) (length d))
-  too-long h = no-room s (unpacked v) d (v .count) (unpacked-long v five short) h
+  too-long h = no-room s (unpacked v) d (v .count) (unpacked-long v long short) h
 
   pub written : v .count ≤ length d → (after : List ℕ) → after ≡ over (take (v .count) (v .words)) d
       → Answered (reply (v .state) 0 (v .count)) d after (delivered s (unpacked v) (length d))
-  written h after e = has-room s (unpacked v) d (v .count) (unpacked-long v five short) h after e
+  written h after e = has-room s (unpacked v) d (v .count) (unpacked-long v long short) h after e
 
 -- `request`
 module _ (s : State) (ws d : List ℕ) (n : ℕ) (en : n ≡ requestRefusal s ws) where

@@ -1,5 +1,5 @@
--- Demand 1 for requests: a refusal changes nothing, each is given exactly then, and ranges are kept.
-use mathlib.Core.Path.{_≡_, refl, sym, subst, _∙_}
+-- Demand 1 for requests: a refusal changes nothing, each is given exactly then, 6 never with room for all, and ranges are kept.
+use mathlib.Core.Path.{_≡_, refl, sym, _∙_}
 use mathlib.Core.Bool.{Bool, true, false, not, _&&_}
 use mathlib.Core.List.{List, [], _∷_}
 use Prim.Native.Nat.{ℕ, zero, suc, _≤_}
@@ -7,30 +7,28 @@ use native.Mathlib.Omega.{arith}
 use lib.Dec.{T, ltb, eqb}
 use lib.ListN.{length, getD, take}
 use lib.Seq.{length-take-le, take-append-seam}
-use borrow.Author.Tests.{ne-eqb, eqb-true, ltb-true}
+use borrow.Author.Tests.{ne-eqb, eqb-true, ltb-true, le-ltb}
 use Rattle.words.specs.Choice.{if_then_else_}
-use Rattle.words.specs.Lists.{some, every, areWords, firstOf}
+use Rattle.words.specs.Lists.{some, every, areWords}
+use Rattle.words.specs.Numbers.{no, firstOf}
 use Rattle.words.specs.Buffers.{over}
 use Rattle.words.proofs.Overs.{over-length}
-use Rattle.words.proofs.Tests.{and-l, and-r, is-true, picked}
+use Rattle.words.proofs.Tests.{and-l, and-r, is-true}
 use Rattle.state.specs.declared.State.{State}
-use Rattle.state.specs.declared.Mode.{Mode}
-use Rattle.state.specs.declared.Mode.the-variants.{Idle, Rotate, Measure}
 use Rattle.state.specs.Ranges.{inRange}
 use Rattle.state.specs.declared.Reply.{Reply}
-use Rattle.state.specs.Replies.{Outcome, Result, refused, delivered, Answered, Unchanged}
+use Rattle.state.specs.Replies.{Result, refused, delivered, Answered, Unchanged}
 use Rattle.state.proofs.Delivery.{refused-unchanged, done, delivered-by, delivered-number, delivered-room}
-use Rattle.state.proofs.Parts.{Parts, parts, whole}
-use Rattle.services.proofs.Kept.{signal-kept, config-kept, function-kept, profile-kept, cancel-kept, idle-kept, reset-kept, rotate-kept, measure-kept}
+use Rattle.state.proofs.Parts.{parts, whole}
 use Rattle.sensor.specs.declared.Service.{Service}
-use Rattle.sensor.specs.declared.Service.the-variants.{GetStatus, GetSignal, SetSignal, SetConfig, GetConfig, SetFunction, GetFunction, GetProfile, CancelProfile, DoReset, TransIdle, TransRotate, TransMeasure, Unknown}
-use Rattle.sensor.specs.Table.{rowOf, services, named, serviceOf, allowed, outcomeOf}
-use Rattle.sensor.specs.Requests.{isListed, serviceRefusal, requestRefusal, outcome, requestOf}
-use Rattle.sensor.specs.Demands.{RefusalsChangeNothing, RefusalsExactly, RangesKept}
+use Rattle.sensor.specs.Table.{rowOf, services, named, serviceOf, allowed, isListed}
+use Rattle.sensor.specs.Requests.{serviceRefusal, requestRefusal, outcome, requestOf}
+use Rattle.sensor.specs.Demands.{RefusalsChangeNothing, RefusalsExactly, RoomForAll, RangesKept}
+use Rattle.sensor.proofs.Lawful.{outcome-fine}
 
 -- what holds of every refusal, and of the outcome of a request that none of 1 to 5 refuses, holds of the request
-pub requested-by : (P : Result → Type 0) (s : State) (ws : List ℕ) (room : ℕ) → ((n : ℕ) → P (refused s n)) → (requestRefusal s ws ≡ 0 → P (done (outcome s ws)))
-    → P (requestOf s ws room)
+pub requested-by : (P : Result → Type 0) (s : State) (ws : List ℕ) (room : ℕ) → ((n : ℕ) → P (refused s n))
+    → (requestRefusal s ws ≡ 0 → P (done (outcome s ws))) → P (requestOf s ws room)
 unfolding requestOf
 requested-by P s ws room h k = go (eqb (requestRefusal s ws) 0) refl
   where
@@ -71,7 +69,8 @@ refusals-change-nothing s ws d =
     requested-by (λ x. (x .reply .refusal ≡ 0 → ⊥) → Unchanged s d x) s ws (length d) (λ n _. refused-unchanged s n d) (λ _ n. absurd (n refl))
 
 -- a code is in the table where one of the services has it
-listed : (code : ℕ) (vs : List Service) → T (every isListed vs) → not (isListed (named code vs)) ≡ every (λ v. not (eqb code (rowOf v .code))) vs
+listed : (code : ℕ) (vs : List Service) → T (every isListed vs)
+    → not (isListed (named code vs)) ≡ every (λ v. not (eqb code (rowOf v .code))) vs
 listed code [] h = refl
 listed code (v ∷ vs) h = go (eqb code (rowOf v .code)) (listed code vs (and-r (isListed v) (every isListed vs) h))
   where
@@ -96,7 +95,7 @@ in-order : (a b c d e f : Bool)
     → (if eqb (if a then 1 else if b then 2 else if c then 3 else if d then 4 else if e then 5 else 0) 0
     then (if f then 6 else 0)
     else (if a then 1 else if b then 2 else if c then 3 else if d then 4 else if e then 5 else 0))
-    ≡ firstOf 1 (a ∷ b ∷ c ∷ d ∷ e ∷ f ∷ [])
+    ≡ firstOf (no 1 a ∷ no 2 b ∷ no 3 c ∷ no 4 d ∷ no 5 e ∷ no 6 f ∷ [])
 in-order true b c d e f = refl
 in-order false true c d e f = refl
 in-order false false true d e f = refl
@@ -134,49 +133,53 @@ refusals-exactly s ws room =
     (not (eqb (length ws) (rowOf (serviceOf (getD ws 0 0)) .wordsIn))) (not (allowed (serviceOf (getD ws 0 0)) (s .mode)))
     (ltb room (length (outcome s ws .words))))
 
--- a request that none of 1 to 5 refuses is in a mode that is listed
+-- a request that none of 1 to 5 refuses finds a state in its ranges, and a mode that is listed
 passes : (a b c d e : Bool)
-    → _≡_ {A = ℕ} (if not a then 1 else if b then 2 else if not c then 3 else if not d then 4 else if not e then 5 else 0) 0 → T e
-passes true false true true true q = tt
+    → _≡_ {A = ℕ} (if not a then 1 else if b then 2 else if not c then 3 else if not d then 4 else if not e then 5 else 0) 0 → T a × T e
+passes true false true true true q = (tt, tt)
 passes true false true true false q = absurd (omega arith)
 passes true false true false e q = absurd (omega arith)
 passes true false false d e q = absurd (omega arith)
 passes true true c d e q = absurd (omega arith)
 passes false b c d e q = absurd (omega arith)
 
-served-mode : (s : State) (ws : List ℕ) → requestRefusal s ws ≡ 0 → T (allowed (serviceOf (getD ws 0 0)) (s .mode))
+pub served-so : (s : State) (ws : List ℕ) → requestRefusal s ws ≡ 0 → T (inRange s) × T (allowed (serviceOf (getD ws 0 0)) (s .mode))
 unfolding requestRefusal serviceRefusal
-served-mode s ws e = passes (inRange s) (eqb (length ws) 0) (isListed (serviceOf (getD ws 0 0))) (eqb (length ws) (rowOf (serviceOf (getD ws 0 0)) .wordsIn)) (allowed (serviceOf (getD ws 0 0)) (s .mode)) e
+served-so s ws e =
+    let v = serviceOf (getD ws 0 0) in
+    passes (inRange s) (eqb (length ws) 0) (isListed v) (eqb (length ws) (rowOf v .wordsIn)) (allowed v (s .mode)) e
 
 word-fits : (ws : List ℕ) (i : ℕ) → T (areWords ws) → getD ws i 0 ≤ 65535
 word-fits [] i h = omega arith
 word-fits (w ∷ ws) zero h = omega (arith, ltb-true w 65536 (is-true (and-l (ltb w 65536) (areWords ws) h)))
 word-fits (w ∷ ws) (suc i) h = word-fits ws i (and-r (ltb w 65536) (areWords ws) h)
 
-only-measure : (m : Mode) → T (allowed GetProfile m) → m ≡ Measure
-only-measure Idle h = absurd h
-only-measure Rotate h = absurd h
-only-measure Measure h = refl
-
--- each service, where it is allowed
-outcome-kept : (v : Service) (s : State) (a b c d : ℕ) → Parts s → a ≤ 65535 → T (allowed v (s .mode)) → Parts (outcomeOf v s a b c d .after)
-outcome-kept GetStatus s a b c d p l h = p
-outcome-kept GetSignal s a b c d p l h = p
-outcome-kept SetSignal s a b c d p l h = signal-kept s p a
-outcome-kept SetConfig s a b c d p l h = config-kept s p a b c d (λ e. subst (λ (m : Mode). T (allowed SetConfig m)) e h)
-outcome-kept GetConfig s a b c d p l h = picked (λ (o : Outcome). Parts (o .after)) (eqb a 0x0010) _ _ p p
-outcome-kept SetFunction s a b c d p l h = function-kept s p a b c d (λ e. subst (λ (m : Mode). T (allowed SetFunction m)) e h)
-outcome-kept GetFunction s a b c d p l h = picked (λ (o : Outcome). Parts (o .after)) (ltb 7 a) _ _ p p
-outcome-kept GetProfile s a b c d p l h = profile-kept s p a b l (only-measure (s .mode) h)
-outcome-kept CancelProfile s a b c d p l h = cancel-kept s p
-outcome-kept DoReset s a b c d p l h = reset-kept s p a
-outcome-kept TransIdle s a b c d p l h = idle-kept s p
-outcome-kept TransRotate s a b c d p l h = rotate-kept s p a
-outcome-kept TransMeasure s a b c d p l h = measure-kept s p (λ e. subst (λ (m : Mode). T (allowed TransMeasure m)) e h)
-outcome-kept Unknown s a b c d p l h = p
-
 pub ranges-kept : RangesKept
-unfolding outcome
 ranges-kept s ws room w h =
     requested-by (λ x. T (inRange (x .reply .state))) s ws room (λ _. h)
-    (λ e. whole _ (outcome-kept (serviceOf (getD ws 0 0)) s (getD ws 1 0) (getD ws 2 0) (getD ws 3 0) (getD ws 4 0) (parts s h) (word-fits ws 1 w) (served-mode s ws e)))
+    (λ e. whole _ (outcome-fine s ws .kept (word-fits ws 1 w, served-so s ws e .1) (parts s h)))
+
+-- with room for the longest answer 6 is not given
+not-six : (b : Bool) (n : ℕ) → n ≤ 5 → _≡_ {A = ℕ} (if b then 0 else n) 6 → ⊥
+not-six true n h q = omega arith
+not-six false n h q = omega arith
+
+at-most : (a b c d e : Bool) → (if a then 1 else if b then 2 else if c then 3 else if d then 4 else if e then 5 else 0) ≤ 5
+at-most true b c d e = omega arith
+at-most false true c d e = omega arith
+at-most false false true d e = omega arith
+at-most false false false true e = omega arith
+at-most false false false false true = omega arith
+at-most false false false false false = omega arith
+
+below : (s : State) (ws : List ℕ) → requestRefusal s ws ≤ 5
+unfolding requestRefusal serviceRefusal
+below s ws =
+    let v = serviceOf (getD ws 0 0) in
+    at-most (not (inRange s)) (eqb (length ws) 0) (not (isListed v)) (not (eqb (length ws) (rowOf v .wordsIn))) (not (allowed v (s .mode)))
+
+pub room-for-all : RoomForAll
+room-for-all s ws room h q =
+    let short = outcome-fine s ws .short in
+    let fits = le-ltb room (length (outcome s ws .words)) (omega arith) in
+    not-six (eqb (requestRefusal s ws) 0) (requestRefusal s ws) (below s ws) (rw fits at (sym (number-is s ws room) ∙ q))

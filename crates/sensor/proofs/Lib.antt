@@ -1,7 +1,9 @@
 -- The functions
+pub mod Codes
 pub mod Refusals
 pub mod Answering
 -- The theorems
+pub mod Lawful
 pub mod Demand1
-pub mod Changes
+pub mod Served
 pub mod RequestRows

@@ -10,28 +10,34 @@ use Rattle.state.specs.declared.State.{State}
 use Rattle.state.specs.declared.Mode.{Mode}
 use Rattle.state.specs.Ranges.{inRange}
 use Rattle.sensor.specs.declared.Service.{Service}
-use Rattle.sensor.specs.Table.{rowOf, serviceOf, allowed}
+use Rattle.sensor.specs.Table.{rowOf, serviceOf, listed, allowed, Lists}
 use Rattle.sensor.specs.Requests.{serviceRefusal, requestRefusal}
 
 -- `service_refusal`
-module _ (v : Service) (count : ℕ) (mode : Mode) (want : ℕ) (ew : want ≡ rowOf v .wordsIn) where
-  pub not-listed : want ≡ 0 → 3 ≡ serviceRefusal v count mode
+module _ (v : Service) (want : ℕ) (i r m : Bool) (code count : ℕ) (mode : Mode) (l : Lists v want i r m code) where
+  want-is : want ≡ rowOf (serviceOf code) .wordsIn
+  want-is = rw (← l .service) (l .wordsIn)
+
+  pub not-listed : want ≡ 0 → 3 ≡ serviceRefusal (serviceOf code) count mode
   unfolding serviceRefusal
-  not-listed h = rw (← ew, eq-eqb _ _ h)
+  not-listed h = rw (← want-is, eq-eqb _ _ h)
 
-  module _ (listed : want ≡ 0 → ⊥) where
-    pub wrong-count : (count ≡ want → ⊥) → 4 ≡ serviceRefusal v count mode
+  module _ (some : want ≡ 0 → ⊥) where
+    pub wrong-count : (count ≡ want → ⊥) → 4 ≡ serviceRefusal (serviceOf code) count mode
     unfolding serviceRefusal
-    wrong-count h = rw (← ew, ne-eqb _ _ listed, ne-eqb _ _ h)
+    wrong-count h = rw (← want-is, ne-eqb _ _ some, ne-eqb _ _ h)
 
-    module _ (right : count ≡ want) (a : Bool) (ea : a ≡ allowed v mode) where
-      pub wrong-mode : not a ≡ true → 5 ≡ serviceRefusal v count mode
-      unfolding serviceRefusal
-      wrong-mode q = rw (← ew, ne-eqb _ _ listed, eq-eqb _ _ right, said-no ea q)
+    module _ (right : count ≡ want) (a : Bool) (ea : a ≡ listed i r m mode) where
+      mode-is : a ≡ allowed (serviceOf code) mode
+      mode-is = rw (← l .service, ← l .idle, ← l .rotate, ← l .measure) ea
 
-      pub no-objection : not a ≡ false → 0 ≡ serviceRefusal v count mode
+      pub wrong-mode : not a ≡ true → 5 ≡ serviceRefusal (serviceOf code) count mode
       unfolding serviceRefusal
-      no-objection q = rw (← ew, ne-eqb _ _ listed, eq-eqb _ _ right, said-yes ea q)
+      wrong-mode q = rw (← want-is, ne-eqb _ _ some, eq-eqb _ _ right, said-no mode-is q)
+
+      pub no-objection : not a ≡ false → 0 ≡ serviceRefusal (serviceOf code) count mode
+      unfolding serviceRefusal
+      no-objection q = rw (← want-is, ne-eqb _ _ some, eq-eqb _ _ right, said-yes mode-is q)
 
 -- `request_refusal`
 module _ (s : State) (ws : List ℕ) (a : Bool) (ea : a ≡ inRange s) where
@@ -44,7 +50,7 @@ module _ (s : State) (ws : List ℕ) (a : Bool) (ea : a ≡ inRange s) where
     unfolding requestRefusal
     no-words h = rw (said-yes ea qa, eq-eqb _ _ h)
 
-    pub by-service : (length ws ≡ 0 → ⊥) → (v : Service) → v ≡ serviceOf (getD ws 0 0) → (n : ℕ) → n ≡ serviceRefusal v (length ws) (s .mode)
+    pub by-service : (length ws ≡ 0 → ⊥) → (n : ℕ) → n ≡ serviceRefusal (serviceOf (getD ws 0 0)) (length ws) (s .mode)
         → n ≡ requestRefusal s ws
     unfolding requestRefusal
-    by-service h v ev n en = rw (said-yes ea qa, ne-eqb _ _ h, ← ev) en
+    by-service h n en = rw (said-yes ea qa, ne-eqb _ _ h) en

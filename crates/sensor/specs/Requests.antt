@@ -1,5 +1,5 @@
 -- Document 01, 'Numbers for no': a request, its refusals 1 to 6 in order, and what it hands back.
-use mathlib.Core.Bool.{Bool, not}
+use mathlib.Core.Bool.{not}
 use mathlib.Core.List.{List}
 use Prim.Native.Nat.{ℕ}
 use lib.Dec.{eqb}
@@ -8,22 +8,19 @@ use Rattle.words.specs.Choice.{if_then_else_}
 use Rattle.state.specs.declared.State.{State}
 use Rattle.state.specs.declared.Mode.{Mode}
 use Rattle.state.specs.Ranges.{inRange}
-use Rattle.state.specs.Replies.{Outcome, Result, refused, delivered}
+use Rattle.state.specs.declared.Reply.{Reply}
+use Rattle.state.specs.Replies.{Outcome, Result, refused, delivered, Answered}
 use Rattle.sensor.specs.declared.Service.{Service}
-use Rattle.sensor.specs.Table.{rowOf, serviceOf, allowed, outcomeOf}
+use Rattle.sensor.specs.Table.{rowOf, serviceOf, allowed, outcomeOf, isListed}
 
--- the code is in the table: each row has a word, the code's, at least
-abbrev pub isListed : Service → Bool
-isListed v = not (eqb (rowOf v .wordsIn) 0)
-
--- 3 "code not in the table", 4 "wrong number of words", 5 "mode not listed"
+-- 3 for a code that is not in the table, 4 for a wrong number of words, 5 for a mode that is not listed
 unfoldable pub serviceRefusal : Service → ℕ → Mode → ℕ
 serviceRefusal v count mode =
     if not (isListed v) then 3 else
     if not (eqb count (rowOf v .wordsIn)) then 4 else
     if not (allowed v mode) then 5 else 0
 
--- 1 "state outside its ranges", 2 "no word", then 3 to 5; 0 for none
+-- 1 for a state outside its ranges, 2 for no word, then 3 to 5; 0 for none
 unfoldable pub requestRefusal : State → List ℕ → ℕ
 requestRefusal s ws =
     if not (inRange s) then 1 else
@@ -38,3 +35,7 @@ outcome s ws = outcomeOf (serviceOf (getD ws 0 0)) s (getD ws 1 0) (getD ws 2 0)
 unfoldable pub requestOf : State → List ℕ → ℕ → Result
 requestOf s ws room =
     if eqb (requestRefusal s ws) 0 then delivered s (outcome s ws) room else refused s (requestRefusal s ws)
+
+-- the contract of `request`: the reply, and the buffer from its contents before to those after
+abbrev pub RequestSays : State → List ℕ → List ℕ → List ℕ → Reply → Type 0
+RequestSays s ws before after r = Answered r before after (requestOf s ws (length before))

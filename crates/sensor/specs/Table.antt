@@ -1,94 +1,117 @@
 -- Document 01, 'Services': the table, as data.
-use mathlib.Core.Bool.{Bool, true, false}
+use mathlib.Core.Path.{_≡_}
+use mathlib.Core.Bool.{Bool, true, false, not, _&&_, _||_}
 use mathlib.Core.List.{List, [], _∷_}
-use Prim.Native.Nat.{ℕ}
+use Prim.Native.Nat.{ℕ, _+_}
 use lib.Dec.{eqb}
 use Rattle.words.specs.Choice.{if_then_else_}
 use Rattle.state.specs.declared.State.{State}
 use Rattle.state.specs.declared.Mode.{Mode}
 use Rattle.state.specs.declared.Mode.the-variants.{Idle, Rotate, Measure}
+use Rattle.state.specs.Changes.{Part}
+use Rattle.state.specs.Changes as part
 use Rattle.state.specs.Replies.{Outcome}
 use Rattle.services.specs.Answers.{answer}
 use Rattle.services.specs.Status.{getStatus, getSignal, setSignal}
 use Rattle.services.specs.Configuration.{setConfig, getConfig, setFunction, getFunction}
-use Rattle.services.specs.Measurement.{getProfile, cancelProfile}
+use Rattle.services.specs.Measurement.{startsJob, getProfile, cancelProfile}
 use Rattle.services.specs.Working.{doReset, transIdle, transRotate, transMeasure}
 use Rattle.sensor.specs.declared.Service.{Service}
-use Rattle.sensor.specs.declared.Service.the-variants.{GetStatus, GetSignal, SetSignal, SetConfig, GetConfig, SetFunction, GetFunction, GetProfile, CancelProfile, DoReset, TransIdle, TransRotate, TransMeasure, Unknown}
 
--- a row of the table: the code, how many words come in, the code's included, and whether IDLE, ROTATE and MEASURE are listed
+-- a row of the table: the code, how many words come in, the code's included, whether IDLE, ROTATE and MEASURE are listed, the parts of
+-- the state that the service may change, and what it does, given the response code and the words after the code
 pub record Entry : Type 0 where
   pub code : ℕ
   pub wordsIn : ℕ
   pub idle : Bool
   pub rotate : Bool
   pub measure : Bool
+  pub changes : List Part
+  pub does : State → ℕ → ℕ → ℕ → ℕ → ℕ → Outcome
 
-abbrev entry : ℕ → ℕ → Bool → Bool → Bool → Entry
-entry code wordsIn idle rotate measure = record { code = code; wordsIn = wordsIn; idle = idle; rotate = rotate; measure = measure }
+abbrev entry : ℕ → ℕ → Bool → Bool → Bool → List Part → (State → ℕ → ℕ → ℕ → ℕ → ℕ → Outcome) → Entry
+entry code wordsIn idle rotate measure changes does =
+    record { code = code; wordsIn = wordsIn; idle = idle; rotate = rotate; measure = measure; changes = changes; does = does }
+
+-- what TRANS_IDLE and TRANS_ROTATE may change, and DO_RESET
+abbrev drive : List Part
+drive = part.mode ∷ part.running ∷ part.job ∷ []
+
+abbrev allReset : List Part
+allReset = part.working ∷ part.mode ∷ part.running ∷ part.port ∷ part.counter ∷ part.job ∷ []
 
 -- the rows
 abbrev pub rowOf : Service → Entry
-rowOf GetStatus = entry 0x0102 1 true true true
-rowOf GetSignal = entry 0x0104 1 true true true
-rowOf SetSignal = entry 0x0105 2 true true true
-rowOf SetConfig = entry 0x0201 5 true false false
-rowOf GetConfig = entry 0x0202 2 true true true
-rowOf SetFunction = entry 0x020A 5 true true false
-rowOf GetFunction = entry 0x020B 2 true true true
-rowOf GetProfile = entry 0x0301 3 false false true
-rowOf CancelProfile = entry 0x0302 1 false false true
-rowOf DoReset = entry 0x0401 2 true true true
-rowOf TransIdle = entry 0x0402 1 true true true
-rowOf TransRotate = entry 0x0403 2 true true true
-rowOf TransMeasure = entry 0x0404 1 false true true
-rowOf Unknown = entry 0 0 false false false
+rowOf Service.GetStatus = entry 0x0102 1 true true true [] (λ s r a b c d. getStatus s r)
+rowOf Service.GetSignal = entry 0x0104 1 true true true [] (λ s r a b c d. getSignal s r)
+rowOf Service.SetSignal = entry 0x0105 2 true true true (part.port ∷ []) (λ s r a b c d. setSignal s r a)
+rowOf Service.SetConfig = entry 0x0201 5 true false false (part.config ∷ []) (λ s r a b c d. setConfig s r a b c d)
+rowOf Service.GetConfig = entry 0x0202 2 true true true [] (λ s r a b c d. getConfig s r a)
+rowOf Service.SetFunction = entry 0x020A 5 true true false (part.working ∷ part.stored ∷ []) (λ s r a b c d. setFunction s r a b c d)
+rowOf Service.GetFunction = entry 0x020B 2 true true true [] (λ s r a b c d. getFunction s r a)
+rowOf Service.GetProfile = entry 0x0301 3 false false true (part.job ∷ []) (λ s r a b c d. getProfile s r a b)
+rowOf Service.CancelProfile = entry 0x0302 1 false false true (part.job ∷ []) (λ s r a b c d. cancelProfile s r)
+rowOf Service.DoReset = entry 0x0401 2 true true true allReset (λ s r a b c d. doReset s r a)
+rowOf Service.TransIdle = entry 0x0402 1 true true true drive (λ s r a b c d. transIdle s r)
+rowOf Service.TransRotate = entry 0x0403 2 true true true drive (λ s r a b c d. transRotate s r a)
+rowOf Service.TransMeasure = entry 0x0404 1 false true true (part.mode ∷ []) (λ s r a b c d. transMeasure s r)
+rowOf Service.Unknown = entry 0 0 false false false [] (λ s r a b c d. answer s [])
 
--- the thirteen services
+-- a response code; `RESPONSE` in the code
+abbrev pub response : ℕ → ℕ
+response code = code + 0x8000
+
+-- the services of the table
 abbrev pub services : List Service
 services =
-    GetStatus
-    ∷ GetSignal
-    ∷ SetSignal
-    ∷ SetConfig
-    ∷ GetConfig
-    ∷ SetFunction
-    ∷ GetFunction
-    ∷ GetProfile
-    ∷ CancelProfile
-    ∷ DoReset
-    ∷ TransIdle
-    ∷ TransRotate
-    ∷ TransMeasure
+    Service.GetStatus
+    ∷ Service.GetSignal
+    ∷ Service.SetSignal
+    ∷ Service.SetConfig
+    ∷ Service.GetConfig
+    ∷ Service.SetFunction
+    ∷ Service.GetFunction
+    ∷ Service.GetProfile
+    ∷ Service.CancelProfile
+    ∷ Service.DoReset
+    ∷ Service.TransIdle
+    ∷ Service.TransRotate
+    ∷ Service.TransMeasure
     ∷ []
 
 -- the first service of a list that has the code, and Unknown where none has
 abbrev pub named : ℕ → List Service → Service
-named code [] = Unknown
+named code [] = Service.Unknown
 named code (v ∷ vs) = if eqb code (rowOf v .code) then v else named code vs
 
 unfoldable pub serviceOf : ℕ → Service
 serviceOf code = named code services
 
 -- the mode is listed
+abbrev pub listed : Bool → Bool → Bool → Mode → Bool
+listed idle rotate measure Idle = idle
+listed idle rotate measure Rotate = rotate
+listed idle rotate measure Measure = measure
+
 abbrev pub allowed : Service → Mode → Bool
-allowed v Idle = rowOf v .idle
-allowed v Rotate = rowOf v .rotate
-allowed v Measure = rowOf v .measure
+allowed v mode = listed (rowOf v .idle) (rowOf v .rotate) (rowOf v .measure) mode
 
 -- what the service does, given the words after the code
 abbrev pub outcomeOf : Service → State → ℕ → ℕ → ℕ → ℕ → Outcome
-outcomeOf GetStatus s a b c d = getStatus s
-outcomeOf GetSignal s a b c d = getSignal s
-outcomeOf SetSignal s a b c d = setSignal s a
-outcomeOf SetConfig s a b c d = setConfig s a b c d
-outcomeOf GetConfig s a b c d = getConfig s a
-outcomeOf SetFunction s a b c d = setFunction s a b c d
-outcomeOf GetFunction s a b c d = getFunction s a
-outcomeOf GetProfile s a b c d = getProfile s a b
-outcomeOf CancelProfile s a b c d = cancelProfile s
-outcomeOf DoReset s a b c d = doReset s a
-outcomeOf TransIdle s a b c d = transIdle s
-outcomeOf TransRotate s a b c d = transRotate s a
-outcomeOf TransMeasure s a b c d = transMeasure s
-outcomeOf Unknown s a b c d = answer s []
+outcomeOf v s a b c d = rowOf v .does s (response (rowOf v .code)) a b c d
+
+-- the service is in the table: each row has a word, the code's, at least
+abbrev pub isListed : Service → Bool
+isListed v = not (eqb (rowOf v .wordsIn) 0)
+
+-- no word is due: of what is no service, and of a GET_PROFILE whose mask starts a job
+abbrev pub silent : Service → ℕ → ℕ → ℕ → ℕ → Bool
+silent v a b c d = not (isListed v) || (eqb (rowOf v .code) (rowOf Service.GetProfile .code) && startsJob b)
+
+-- a row as the code holds it is that of a code
+pub record Lists (v : Service) (w : ℕ) (i r m : Bool) (code : ℕ) : Type 0 where
+  pub service : v ≡ serviceOf code
+  pub wordsIn : w ≡ rowOf v .wordsIn
+  pub idle : i ≡ rowOf v .idle
+  pub rotate : r ≡ rowOf v .rotate
+  pub measure : m ≡ rowOf v .measure

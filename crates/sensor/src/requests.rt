@@ -4,24 +4,26 @@ ghost use Prim.Native.Nat.{_≤_};
 ghost use lib.ListN.{length, getD, take};
 ghost use Rattle.words.specs.Buffers.{over};
 ghost use Rattle.state.specs.Replies.{Answered, delivered};
-ghost use Rattle.services.specs.Answers.{Gives, unpacked};
-ghost use Rattle.sensor.specs.Requests.{serviceRefusal, requestRefusal, outcome, requestOf};
-use crate::Service;
+ghost use Rattle.services.specs.Answers.{longest, Gives, unpacked};
+ghost use Rattle.sensor.specs.Table.{serviceOf};
+ghost use Rattle.sensor.specs.Requests.{serviceRefusal, requestRefusal, outcome, RequestSays};
 use crate::table::is_allowed;
+use crate::table::response_code;
+use crate::table::row_of;
 use crate::table::serve;
-use crate::table::service_of;
-use crate::table::words_in;
+use services::LONGEST;
 use services::Served;
 use state::Mode;
 use state::Reply;
 use state::State;
 
 // Refusals 3, 4 and 5.
-fn service_refusal(service: Service, count: usize, mode: Mode) -> u16
-    ensures { λ r. ⌜ r ≡ serviceRefusal service count mode ⌝ }
+fn service_refusal(code: u16, count: usize, mode: Mode) -> u16
+    ensures { λ r. ⌜ r ≡ serviceRefusal (serviceOf code) count mode ⌝ }
 {
-    let want = words_in(service);
-    let allowed = is_allowed(service, mode);
+    let row = row_of(code);
+    let want = row.1;
+    let allowed = is_allowed(row, mode);
     if want == 0 {
         return 3;
     }
@@ -44,26 +46,28 @@ fn request_refusal(state: State, words: &[u16]) -> u16
     if words.len() == 0 {
         return 2;
     }
-    let service = service_of(words[0]);
     let mode = state.mode;
-    service_refusal(service, words.len(), mode)
+    service_refusal(words[0], words.len(), mode)
 }
 
 // What the service of the first word does with the others.
 fn serve_words(state: State, words: &[u16]) -> Served
     ensures { λ r. ⌜ Gives r (outcome state (now (words .entry))) ⌝ }
 {
-    let service = service_of(words::word_at(words, 0));
+    let code = words::word_at(words, 0);
+    let row = row_of(code);
+    let service = row.0;
+    let response = response_code(code);
     let a = words::word_at(words, 1);
     let b = words::word_at(words, 2);
     let c = words::word_at(words, 3);
     let d = words::word_at(words, 4);
-    serve(service, state, a, b, c, d)
+    serve(service, state, response, a, b, c, d)
 }
 
 // The first words of an answer go to the buffer's start.
-fn write(words: [u16; 5], count: usize, out: &mut [u16])
-    requires { ⌜ (count ≤ 5) × (count ≤ length (now out)) ⌝ }
+fn write(words: [u16; LONGEST], count: usize, out: &mut [u16])
+    requires { ⌜ (count ≤ longest) × (count ≤ length (now out)) ⌝ }
     ensures { λ r. ⌜ now (out .exit) ≡ over (take count words) (now (out .entry)) ⌝ }
 {
     let mut i: usize = 0;
@@ -75,7 +79,7 @@ fn write(words: [u16; 5], count: usize, out: &mut [u16])
 
 // Refusal 6 with the state as it came, or the answer and the next state.
 fn deliver(served: Served, state: State, out: &mut [u16]) -> Reply
-    requires { ⌜ served .count ≤ 5 ⌝ }
+    requires { ⌜ served .count ≤ longest ⌝ }
     ensures { λ r. ⌜ Answered r (now (out .entry)) (now (out .exit)) (delivered state (unpacked served) (length (now (out .entry)))) ⌝ }
 {
     let next = served.state;
@@ -98,7 +102,7 @@ fn deliver(served: Served, state: State, out: &mut [u16]) -> Reply
 
 // One request, answered into the buffer that is lent.
 pub fn request(state: State, words: &[u16], out: &mut [u16]) -> Reply
-    ensures { λ r. ⌜ Answered r (now (out .entry)) (now (out .exit)) (requestOf state (now (words .entry)) (length (now (out .entry)))) ⌝ }
+    ensures { λ r. ⌜ RequestSays state (now (words .entry)) (now (out .entry)) (now (out .exit)) r ⌝ }
 {
     let refusal = request_refusal(state, words);
     if refusal != 0 {

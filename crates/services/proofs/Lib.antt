@@ -1,3 +1,3 @@
 pub mod Exits
 pub mod Packing
-pub mod Kept
+pub mod Lawful

@@ -1,5 +1,4 @@
--- What a service gives: the next state and a short answer. "SENSTAT: high word 0, low word 1 IDLE, 2 ROTATE, 3 MEASURE, after the
--- request."
+-- What a service gives: the next state and a short answer.
 use mathlib.Core.Path.{_≡_}
 use mathlib.Core.List.{List, [], _∷_, _++_}
 use Prim.Native.Nat.{ℕ, _≤_}
@@ -9,9 +8,11 @@ use Rattle.state.specs.Modes.{modeNumber}
 use Rattle.state.specs.Replies.{Outcome}
 use Rattle.services.specs.declared.Served.{Served}
 
+-- Each service is told its response code, which comes from the table.
 abbrev pub answer : State → List ℕ → Outcome
 answer s ws = record { after = s; words = ws }
 
+-- SENSTAT: two words, the high one 0 and the low one the number of the mode, after the request
 abbrev pub senstat : State → List ℕ
 senstat s = 0 ∷ modeNumber (s .mode) ∷ []
 
@@ -19,14 +20,22 @@ senstat s = 0 ∷ modeNumber (s .mode) ∷ []
 abbrev pub answerStatus : ℕ → State → Outcome
 answerStatus code s = answer s (code ∷ senstat s)
 
--- an outcome as the code holds it: the words filled up with zeros to five, the longest answer's length
-abbrev pub packed : Outcome → Served
-packed o = record { state = o .after; words = take 5 (o .words ++ replicate 5 0); count = length (o .words) }
+-- what is answered in the place of a value that there is none of; `NO_VALUE` in the code
+abbrev pub noValue : ℕ
+noValue = 0xFFFF
 
--- the code's result is the outcome, whole
+-- how many words the longest answer has; `LONGEST` in the code
+abbrev pub longest : ℕ
+longest = 5
+
+-- an outcome as the code holds it: the words filled up with zeros to the longest answer's length
+abbrev pub packed : Outcome → Served
+packed o = record { state = o .after; words = take longest (o .words ++ replicate longest 0); count = length (o .words) }
+
+-- the contract of each service: the code's result is the outcome, whole
 pub record Gives (r : Served) (o : Outcome) : Type 0 where
   pub same : r ≡ packed o
-  pub short : r .count ≤ 5
+  pub short : r .count ≤ longest
 
 -- the outcome that the code's result holds
 abbrev pub unpacked : Served → Outcome

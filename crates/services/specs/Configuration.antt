@@ -1,58 +1,65 @@
 -- Document 01, 'Services': SET_CONFIG, GET_CONFIG, SET_FUNCTION, GET_FUNCTION.
-use mathlib.Core.Bool.{_&&_, _||_}
+use mathlib.Core.Bool.{Bool, _&&_, _||_}
 use mathlib.Core.List.{[], _∷_}
 use Prim.Native.Nat.{ℕ, _%_}
 use lib.Dec.{ltb, eqb}
 use Rattle.words.specs.Choice.{if_then_else_}
+use Rattle.units.specs.Directions.{circle}
 use Rattle.plan.specs.declared.Plan.{Plan}
 use Rattle.plan.specs.Sectors.{sector, stopOf, entryAt, withEntry}
 use Rattle.state.specs.declared.State.{State}
 use Rattle.state.specs.Fields.{withConfig, withPlans}
 use Rattle.state.specs.Ranges.{configOk}
 use Rattle.state.specs.Replies.{Outcome}
-use Rattle.services.specs.Answers.{answer}
+use Rattle.services.specs.Answers.{answer, noValue}
 
--- "item 0010h, then id, speed, step. Another item, or any value out of range, gives FFFFh and stores none of the three. The running
--- speed stays."
-abbrev pub setConfig : State → ℕ → ℕ → ℕ → ℕ → Outcome
-setConfig s item id speed step =
-    if eqb item 0x0010 && configOk id speed step
-    then answer (withConfig s id speed step) (0x8201 ∷ item ∷ [])
-    else answer s (0x8201 ∷ 0xFFFF ∷ [])
+-- the item of id, speed and step; `CONFIG_ITEM` in the code
+abbrev pub configItem : ℕ
+configItem = 0x0010
 
--- item, id, speed, step; "with another item than 0010h: FFFFh"
-abbrev pub getConfig : State → ℕ → Outcome
-getConfig s item =
-    if eqb item 0x0010
-    then answer s (0x8202 ∷ item ∷ s .id ∷ s .speed ∷ s .step .0 ∷ [])
-    else answer s (0x8202 ∷ 0xFFFF ∷ [])
+-- the item is the configuration's, and all three values are in their ranges
+abbrev pub configTaken : ℕ → ℕ → ℕ → ℕ → Bool
+configTaken item id speed step = eqb item configItem && configOk id speed step
 
--- "sector above 7 becomes 7"
+-- all three are stored and the item is answered, or none is and no value is; the running speed stays
+abbrev pub setConfig : State → ℕ → ℕ → ℕ → ℕ → ℕ → Outcome
+setConfig s code item id speed step =
+    if configTaken item id speed step
+    then answer (withConfig s id speed step) (code ∷ item ∷ [])
+    else answer s (code ∷ noValue ∷ [])
+
+-- item, id, speed, step; no value for another item
+abbrev pub getConfig : State → ℕ → ℕ → Outcome
+getConfig s code item =
+    if eqb item configItem
+    then answer s (code ∷ item ∷ s .id ∷ s .speed ∷ s .step .0 ∷ [])
+    else answer s (code ∷ noValue ∷ [])
+
+-- the sector that is set: past the last, the last
 abbrev pub sectorSet : ℕ → ℕ
 sectorSet number = if ltb 7 number then 7 else number
 
--- "function 2 or above 4 becomes 0"
+-- the function that is set: 0 for one that there is not
 abbrev pub functionSet : ℕ → ℕ
 functionSet function = if eqb function 2 || ltb 4 function then 0 else function
 
--- "stop becomes its remainder by 5760"
+-- the stop that is set
 abbrev pub stopSet : ℕ → ℕ
-stopSet stop = stop % 5760
+stopSet stop = stop % circle
 
 -- the working plan with one entry set
 abbrev pub workingSet : State → ℕ → ℕ → ℕ → Plan
 workingSet s number function stop = withEntry (s .working) (sectorSet number) (sector (functionSet function) (stopSet stop))
 
--- sector, function, stop as set; "Flash = 1 then copies the whole working plan, this change included, to the stored one."
-abbrev pub setFunction : State → ℕ → ℕ → ℕ → ℕ → Outcome
-setFunction s number function stop flash =
+-- sector, function, stop as set; with a flash of 1 the whole working plan, this entry included, is stored
+abbrev pub setFunction : State → ℕ → ℕ → ℕ → ℕ → ℕ → Outcome
+setFunction s code number function stop flash =
     let working = workingSet s number function stop in
-    answer (withPlans s working (if eqb flash 1 then working else s .stored))
-    (0x820A ∷ sectorSet number ∷ functionSet function ∷ stopSet stop ∷ [])
+    answer (withPlans s working (if eqb flash 1 then working else s .stored)) (code ∷ sectorSet number ∷ functionSet function ∷ stopSet stop ∷ [])
 
--- sector, function, stop of the working plan; "with sector above 7: three times FFFFh"
-abbrev pub getFunction : State → ℕ → Outcome
-getFunction s number =
+-- sector, function, stop of the working plan; no values past the last sector
+abbrev pub getFunction : State → ℕ → ℕ → Outcome
+getFunction s code number =
     if ltb 7 number
-    then answer s (0x820B ∷ 0xFFFF ∷ 0xFFFF ∷ 0xFFFF ∷ [])
-    else answer s (0x820B ∷ number ∷ entryAt (s .working) number .function ∷ stopOf (entryAt (s .working) number) ∷ [])
+    then answer s (code ∷ noValue ∷ noValue ∷ noValue ∷ [])
+    else answer s (code ∷ number ∷ entryAt (s .working) number .function ∷ stopOf (entryAt (s .working) number) ∷ [])

@@ -1,4 +1,5 @@
 -- Document 01, 'Services': GET_PROFILE, CANCEL_PROFILE.
+use mathlib.Core.Bool.{Bool, not}
 use mathlib.Core.List.{[], _∷_}
 use Prim.Native.Nat.{ℕ}
 use lib.Dec.{eqb}
@@ -11,18 +12,21 @@ use Rattle.state.specs.Fields.{withDrive}
 use Rattle.state.specs.Replies.{Outcome}
 use Rattle.services.specs.Answers.{answer, answerStatus}
 
--- a new job, number sent 0; "number 0 is endless"
+-- a new job, none sent yet; of 0 profiles it is endless
 abbrev pub newJob : ℕ → ℕ → Job
 newJob number mask = if eqb number 0 then Endless mask 0 else Counted number mask 0
 
--- "bits 14 and 15 are cleared. If the mask is then 0, the answer is 8301h alone and the job stays. Otherwise a new job, number sent
--- 0, replaces the old one and no word is written"
-abbrev pub getProfile : State → ℕ → ℕ → Outcome
-getProfile s number mask =
-    if eqb (cleared mask) 0
-    then answer s (0x8301 ∷ [])
-    else answer (withDrive s (s .mode) (s .running) (newJob number (cleared mask))) []
+-- the mask starts a job: a bit is left when the reserved ones are cleared
+abbrev pub startsJob : ℕ → Bool
+startsJob mask = not (eqb (cleared mask) 0)
+
+-- a new job in the place of the old one, and no word; where the mask starts none, the job stays and the code alone is answered
+abbrev pub getProfile : State → ℕ → ℕ → ℕ → Outcome
+getProfile s code number mask =
+    if startsJob mask
+    then answer (withDrive s (s .mode) (s .running) (newJob number (cleared mask))) []
+    else answer s (code ∷ [])
 
 -- ends the job; SENSTAT
-abbrev pub cancelProfile : State → Outcome
-cancelProfile s = answerStatus 0x8302 (withDrive s (s .mode) (s .running) Absent)
+abbrev pub cancelProfile : State → ℕ → Outcome
+cancelProfile s code = answerStatus code (withDrive s (s .mode) (s .running) Absent)

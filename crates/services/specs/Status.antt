@@ -7,20 +7,19 @@ use Rattle.state.specs.Replies.{Outcome}
 use Rattle.services.specs.Answers.{answer, answerStatus}
 
 -- SENSTAT
-abbrev pub getStatus : State → Outcome
-getStatus s = answerStatus 0x8102 s
+abbrev pub getStatus : State → ℕ → Outcome
+getStatus s code = answerStatus code s
 
 -- port
-abbrev pub getSignal : State → Outcome
-getSignal s = answer s (0x8104 ∷ s .port ∷ [])
+abbrev pub getSignal : State → ℕ → Outcome
+getSignal s code = answer s (code ∷ s .port ∷ [])
 
--- "bits 2 and 3 keep their value, the other six come from the low byte; the high byte is ignored": of the low byte its bits 4 to 7,
--- then bits 2 and 3 of the port, then bits 0 and 1 of the low byte
+-- of a byte its bits 4 to 7, then bits 2 and 3 of the port, which stay, then bits 0 and 1 of the byte
 abbrev pub mergedPort : ℕ → ℕ → ℕ
 mergedPort port low = low / 16 * 16 + port / 4 % 4 * 4 + low % 4
 
--- new port
-abbrev pub setSignal : State → ℕ → Outcome
-setSignal s word =
+-- the new port, from the word's low byte
+abbrev pub setSignal : State → ℕ → ℕ → Outcome
+setSignal s code word =
     let port = mergedPort (s .port) (word % 256) in
-    answer (withPort s port (s .counter)) (0x8105 ∷ port ∷ [])
+    answer (withPort s port) (code ∷ port ∷ [])

@@ -1,16 +1,18 @@
-// Short answers. The length of their array is said here and nowhere else.
+// Short answers, over zeros.
 ghost use mathlib.Core.Path.{_≡_};
-ghost use mathlib.Core.List.{[], _∷_};
-ghost use Rattle.services.specs.Answers.{answer, answerStatus, Gives};
+ghost use mathlib.Core.List.{[], _∷_, _++_};
+ghost use Rattle.services.specs.Answers.{answer, senstat, answerStatus, Gives};
+use crate::LONGEST;
 use crate::Served;
 use state::State;
 
-pub(crate) fn no_word(state: State) -> Served
+pub fn no_word(state: State) -> Served
     ensures { λ r. ⌜ Gives r (answer state []) ⌝ }
 {
+    let words = [0u16; LONGEST];
     Served {
         state,
-        words: [0, 0, 0, 0, 0],
+        words,
         count: 0,
     }
 }
@@ -18,9 +20,11 @@ pub(crate) fn no_word(state: State) -> Served
 pub(crate) fn one_word(state: State, a: u16) -> Served
     ensures { λ r. ⌜ Gives r (answer state (a ∷ [])) ⌝ }
 {
+    let mut words = [0u16; LONGEST];
+    words[0] = a;
     Served {
         state,
-        words: [a, 0, 0, 0, 0],
+        words,
         count: 1,
     }
 }
@@ -28,19 +32,41 @@ pub(crate) fn one_word(state: State, a: u16) -> Served
 pub(crate) fn two_words(state: State, a: u16, b: u16) -> Served
     ensures { λ r. ⌜ Gives r (answer state (a ∷ b ∷ [])) ⌝ }
 {
+    let mut words = [0u16; LONGEST];
+    words[0] = a;
+    words[1] = b;
     Served {
         state,
-        words: [a, b, 0, 0, 0],
+        words,
         count: 2,
+    }
+}
+
+fn three_words(state: State, a: u16, b: u16, c: u16) -> Served
+    ensures { λ r. ⌜ Gives r (answer state (a ∷ b ∷ c ∷ [])) ⌝ }
+{
+    let mut words = [0u16; LONGEST];
+    words[0] = a;
+    words[1] = b;
+    words[2] = c;
+    Served {
+        state,
+        words,
+        count: 3,
     }
 }
 
 pub(crate) fn four_words(state: State, a: u16, b: u16, c: u16, d: u16) -> Served
     ensures { λ r. ⌜ Gives r (answer state (a ∷ b ∷ c ∷ d ∷ [])) ⌝ }
 {
+    let mut words = [0u16; LONGEST];
+    words[0] = a;
+    words[1] = b;
+    words[2] = c;
+    words[3] = d;
     Served {
         state,
-        words: [a, b, c, d, 0],
+        words,
         count: 4,
     }
 }
@@ -48,22 +74,31 @@ pub(crate) fn four_words(state: State, a: u16, b: u16, c: u16, d: u16) -> Served
 pub(crate) fn five_words(state: State, a: u16, b: u16, c: u16, d: u16, e: u16) -> Served
     ensures { λ r. ⌜ Gives r (answer state (a ∷ b ∷ c ∷ d ∷ e ∷ [])) ⌝ }
 {
+    let mut words = [0u16; LONGEST];
+    words[0] = a;
+    words[1] = b;
+    words[2] = c;
+    words[3] = d;
+    words[4] = e;
     Served {
         state,
-        words: [a, b, c, d, e],
+        words,
         count: 5,
     }
 }
 
 // A response code, then SENSTAT.
-pub(crate) fn answer_status(code: u16, state: State) -> Served
+pub(crate) fn answer_status(state: State, code: u16) -> Served
     ensures { λ r. ⌜ Gives r (answerStatus code state) ⌝ }
 {
     let mode = state.mode;
-    let low = state::mode_number(mode);
-    Served {
-        state,
-        words: [code, 0, low, 0, 0],
-        count: 3,
-    }
+    three_words(state, code, 0, state::mode_number(mode))
+}
+
+// A response code, then SENSTAT, then one word more.
+pub(crate) fn answer_status_and(state: State, code: u16, word: u16) -> Served
+    ensures { λ r. ⌜ Gives r (answer state ((code ∷ senstat state) ++ (word ∷ []))) ⌝ }
+{
+    let mode = state.mode;
+    four_words(state, code, 0, state::mode_number(mode), word)
 }

@@ -1,10 +1,8 @@
 // SET_CONFIG, GET_CONFIG, SET_FUNCTION, GET_FUNCTION.
 ghost use mathlib.Core.Path.{_≡_};
-ghost use mathlib.Core.Bool.{_&&_};
-ghost use lib.Dec.{eqb};
-ghost use Rattle.state.specs.Ranges.{configOk};
 ghost use Rattle.services.specs.Answers.{Gives};
-ghost use Rattle.services.specs.Configuration.{setConfig, getConfig, sectorSet, functionSet, setFunction, getFunction};
+ghost use Rattle.services.specs.Configuration.{configTaken, setConfig, getConfig, sectorSet, functionSet, setFunction, getFunction};
+use crate::NO_VALUE;
 use crate::Served;
 use crate::answers::five_words;
 use crate::answers::four_words;
@@ -13,36 +11,37 @@ use plan::Sector;
 use state::State;
 use units::Angle;
 
+// The item of id, speed and step; `configItem` in the specs.
+const CONFIG_ITEM: u16 = 0x0010;
+
 // The item is the configuration's, and id, speed and step are in their ranges.
 fn config_taken(item: u16, id: u16, speed: u16, step: Angle) -> bool
-    ensures { λ r. ⌜ r ≡ (eqb item 0x0010 && configOk id speed (step .0)) ⌝ }
+    ensures { λ r. ⌜ r ≡ configTaken item id speed (step .0) ⌝ }
 {
-    if item != 0x0010 {
+    if item != CONFIG_ITEM {
         return false;
     }
     state::config_ok(id, speed, step)
 }
 
-// All three or none: which of the two states is handed on is decided by one test of them all.
-pub fn set_config(state: State, item: u16, id: u16, speed: u16, step: u16) -> Served
-    ensures { λ r. ⌜ Gives r (setConfig state item id speed step) ⌝ }
+// All four words are tested first: what is refused leaves the state as it came.
+pub fn set_config(state: State, code: u16, item: u16, id: u16, speed: u16, step: Angle) -> Served
+    ensures { λ r. ⌜ Gives r (setConfig state code item id speed (step .0)) ⌝ }
 {
-    let angle = Angle(step);
-    let next = state::with_config(state, id, speed, angle);
-    if !config_taken(item, id, speed, angle) {
-        return two_words(state, 0x8201, 0xFFFF);
+    if !config_taken(item, id, speed, step) {
+        return two_words(state, code, NO_VALUE);
     }
-    two_words(next, 0x8201, item)
+    two_words(state::with_config(state, id, speed, step), code, item)
 }
 
-pub fn get_config(state: State, item: u16) -> Served
-    ensures { λ r. ⌜ Gives r (getConfig state item) ⌝ }
+pub fn get_config(state: State, code: u16, item: u16) -> Served
+    ensures { λ r. ⌜ Gives r (getConfig state code item) ⌝ }
 {
-    if item != 0x0010 {
-        return two_words(state, 0x8202, 0xFFFF);
+    if item != CONFIG_ITEM {
+        return two_words(state, code, NO_VALUE);
     }
     let step = state.step;
-    five_words(state, 0x8202, item, state.id, state.speed, step.0)
+    five_words(state, code, item, state.id, state.speed, step.0)
 }
 
 // The sector that SET_FUNCTION takes.
@@ -69,42 +68,49 @@ fn function_set(function: u16) -> u16
 }
 
 // Whether the stop is a multiple of the step is not tested here: TRANS_MEASURE does.
-pub fn set_function(state: State, number: u16, function: u16, stop: u16, flash: u16) -> Served
-    ensures { λ r. ⌜ Gives r (setFunction state number function stop flash) ⌝ }
+pub fn set_function(
+    state: State,
+    code: u16,
+    number: u16,
+    function: u16,
+    stop: Angle,
+    flash: u16,
+) -> Served
+    ensures { λ r. ⌜ Gives r (setFunction state code number function (stop .0) flash) ⌝ }
 {
     let at = sector_set(number);
     let f = function_set(function);
-    let to = stop % 5760;
+    let to = units::onto_circle(stop);
     let old = state.working;
     let working = plan::with_entry(
         old,
         at as usize,
         Sector {
             function: f,
-            stop: Angle(to),
+            stop: to,
         },
     );
     if flash == 1 {
         return four_words(
             state::with_plans(state, working, working),
-            0x820A,
+            code,
             at,
             f,
-            to,
+            to.0,
         );
     }
     let stored = state.stored;
-    four_words(state::with_plans(state, working, stored), 0x820A, at, f, to)
+    four_words(state::with_plans(state, working, stored), code, at, f, to.0)
 }
 
-pub fn get_function(state: State, number: u16) -> Served
-    ensures { λ r. ⌜ Gives r (getFunction state number) ⌝ }
+pub fn get_function(state: State, code: u16, number: u16) -> Served
+    ensures { λ r. ⌜ Gives r (getFunction state code number) ⌝ }
 {
     if 7 < number {
-        return four_words(state, 0x820B, 0xFFFF, 0xFFFF, 0xFFFF);
+        return four_words(state, code, NO_VALUE, NO_VALUE, NO_VALUE);
     }
     let working = state.working;
     let entry = plan::entry_at(working, number as usize);
     let stop = entry.stop;
-    four_words(state, 0x820B, number, entry.function, stop.0)
+    four_words(state, code, number, entry.function, stop.0)
 }

@@ -1,5 +1,5 @@
-// The thirteen services as pure functions: from a state and the words after the code to the next state and a short answer. Nothing is
-// stored before every test has passed, and nothing is written here: whether the answer fits a buffer is decided above.
+// The services as pure functions: from a state, the response code and the words after the request's code to the next state and a short
+// answer. Nothing is stored before every test has passed, and nothing is written here: whether the answer fits a buffer is decided above.
 use state::State;
 
 mod answers;
@@ -8,6 +8,7 @@ mod measurement;
 mod status;
 mod working;
 
+pub use answers::no_word;
 pub use configuration::get_config;
 pub use configuration::get_function;
 pub use configuration::set_config;
@@ -22,9 +23,15 @@ pub use working::trans_idle;
 pub use working::trans_measure;
 pub use working::trans_rotate;
 
-// The next state, and the answer: its first count words, five at the most.
+// How many words the longest answer has; `longest` in the specs.
+pub const LONGEST: usize = 5;
+
+// What is answered in the place of a value that there is none of; `noValue` in the specs.
+pub(crate) const NO_VALUE: u16 = 0xFFFF;
+
+// The next state, and the answer: its first count words.
 pub struct Served {
     pub state: State,
-    pub words: [u16; 5],
+    pub words: [u16; LONGEST],
     pub count: usize,
 }

@@ -6,6 +6,7 @@ use crate::Served;
 use crate::answers::answer_status;
 use crate::answers::no_word;
 use crate::answers::one_word;
+use layout::MASK_LIMIT;
 use state::Job;
 use state::State;
 
@@ -23,22 +24,24 @@ fn new_job(number: u16, mask: u16) -> Job
     }
 }
 
-pub fn get_profile(state: State, number: u16, mask: u16) -> Served
-    ensures { λ r. ⌜ Gives r (getProfile state number mask) ⌝ }
+pub fn get_profile(state: State, code: u16, number: u16, mask: u16) -> Served
+    ensures { λ r. ⌜ Gives r (getProfile state code number mask) ⌝ }
 {
-    let cleared = mask % 16384;
+    let cleared = mask % MASK_LIMIT;
     if cleared == 0 {
-        return one_word(state, 0x8301);
+        return one_word(state, code);
     }
     let mode = state.mode;
     let job = new_job(number, cleared);
     no_word(state::with_drive(state, mode, state.running, job))
 }
 
-pub fn cancel_profile(state: State) -> Served
-    ensures { λ r. ⌜ Gives r (cancelProfile state) ⌝ }
+pub fn cancel_profile(state: State, code: u16) -> Served
+    ensures { λ r. ⌜ Gives r (cancelProfile state code) ⌝ }
 {
     let mode = state.mode;
-    let next = state::with_drive(state, mode, state.running, Job::Absent);
-    answer_status(0x8302, next)
+    answer_status(
+        state::with_drive(state, mode, state.running, Job::Absent),
+        code,
+    )
 }

@@ -1,10 +1,10 @@
 // DO_RESET, TRANS_IDLE, TRANS_ROTATE, TRANS_MEASURE.
 ghost use mathlib.Core.Path.{_≡_};
 ghost use Rattle.services.specs.Answers.{Gives};
-ghost use Rattle.services.specs.Working.{idleOf, coldOf, stopMeasure, resetOf, doReset, transIdle, rotateOf, transRotate, transMeasure};
+ghost use Rattle.services.specs.Working.{idleOf, coldOf, stopMeasure, resetOf, doReset, transIdle, rotateOf, transRotate, measureOf, transMeasure};
 use crate::Served;
 use crate::answers::answer_status;
-use crate::answers::four_words;
+use crate::answers::answer_status_and;
 use crate::answers::two_words;
 use state::Job;
 use state::Mode;
@@ -17,13 +17,14 @@ fn idle(state: State) -> State
     state::with_drive(state, Mode::Idle, 0, Job::Absent)
 }
 
-// As after power on, but for the configuration and the stored plan.
+// As after power on, but for the configuration and the stored plan, which becomes the working one.
 fn cold(state: State) -> State
     ensures { λ r. ⌜ r ≡ coldOf state ⌝ }
 {
     let stored = state.stored;
     let stopped = idle(state);
-    state::with_port(state::with_plans(stopped, stored, stored), 0, 0)
+    let planned = state::with_plans(stopped, stored, stored);
+    state::with_counter(state::with_port(planned, 0), 0)
 }
 
 // MEASURE becomes ROTATE with no job; other modes stay.
@@ -50,16 +51,16 @@ fn reset(state: State, level: u16) -> State
     state
 }
 
-pub fn do_reset(state: State, level: u16) -> Served
-    ensures { λ r. ⌜ Gives r (doReset state level) ⌝ }
+pub fn do_reset(state: State, code: u16, level: u16) -> Served
+    ensures { λ r. ⌜ Gives r (doReset state code level) ⌝ }
 {
-    two_words(reset(state, level), 0x8401, level)
+    two_words(reset(state, level), code, level)
 }
 
-pub fn trans_idle(state: State) -> Served
-    ensures { λ r. ⌜ Gives r (transIdle state) ⌝ }
+pub fn trans_idle(state: State, code: u16) -> Served
+    ensures { λ r. ⌜ Gives r (transIdle state code) ⌝ }
 {
-    answer_status(0x8402, idle(state))
+    answer_status(idle(state), code)
 }
 
 // ROTATE at the configured speed for 0, at the speed given for 5 to 20; else IDLE.
@@ -75,24 +76,28 @@ fn rotate(state: State, speed: u16) -> State
     state::with_drive(state, Mode::Rotate, speed, Job::Absent)
 }
 
-pub fn trans_rotate(state: State, speed: u16) -> Served
-    ensures { λ r. ⌜ Gives r (transRotate state speed) ⌝ }
+pub fn trans_rotate(state: State, code: u16, speed: u16) -> Served
+    ensures { λ r. ⌜ Gives r (transRotate state code speed) ⌝ }
 {
-    answer_status(0x8403, rotate(state, speed))
+    answer_status(rotate(state, speed), code)
 }
 
-// A running job goes on at error 0.
-pub fn trans_measure(state: State) -> Served
-    ensures { λ r. ⌜ Gives r (transMeasure state) ⌝ }
+// MEASURE at error 0, and a running job goes on; else ROTATE with no job.
+fn measured(state: State, error: u16) -> State
+    ensures { λ r. ⌜ r ≡ measureOf state error ⌝ }
+{
+    if error != 0 {
+        return state::with_drive(state, Mode::Rotate, state.running, Job::Absent);
+    }
+    let job = state.job;
+    state::with_drive(state, Mode::Measure, state.running, job)
+}
+
+pub fn trans_measure(state: State, code: u16) -> Served
+    ensures { λ r. ⌜ Gives r (transMeasure state code) ⌝ }
 {
     let working = state.working;
     let step = state.step;
     let error = plan::measure_error(working, step, state.running);
-    if error != 0 {
-        let stopped = state::with_drive(state, Mode::Rotate, state.running, Job::Absent);
-        return four_words(stopped, 0x8404, 0, 2, error);
-    }
-    let job = state.job;
-    let measuring = state::with_drive(state, Mode::Measure, state.running, job);
-    four_words(measuring, 0x8404, 0, 3, error)
+    answer_status_and(measured(state, error), code, error)
 }

@@ -14,7 +14,7 @@ use Rattle.state.specs.declared.Mode.{Mode}
 use Rattle.state.specs.declared.Mode.the-variants.{Idle, Rotate, Measure}
 use Rattle.state.specs.declared.Job.{Job}
 use Rattle.state.specs.declared.Job.the-variants.{Counted, Endless}
-use Rattle.state.specs.Ranges.{speedOk, configOk, runningOk, checksOk, isMeasure, jobOk, inRange}
+use Rattle.state.specs.Ranges.{speedOk, configOk, driveOk, isMeasure, jobOk, aloneOk, inRange}
 
 -- `config_ok`
 module _ (id speed step : ℕ) (low : 1 ≤ id) (high : id ≤ 254) (a : Bool) (ea : a ≡ speedOk speed) where
@@ -28,18 +28,18 @@ module _ (id speed step : ℕ) (low : 1 ≤ id) (high : id ≤ 254) (a : Bool) (
 
 -- `drive_ok`
 module _ (mode : Mode) (working : Plan) (step running : ℕ) where
-  pub stands : mode ≡ Idle → eqb running 0 ≡ (runningOk mode running && checksOk mode working step running)
+  pub stands : mode ≡ Idle → eqb running 0 ≡ driveOk mode running working step
   stands m = rw (m, and-true)
 
-  pub rotates : mode ≡ Rotate → (a : Bool) → a ≡ speedOk running → a ≡ (runningOk mode running && checksOk mode working step running)
+  pub rotates : mode ≡ Rotate → (a : Bool) → a ≡ speedOk running → a ≡ driveOk mode running working step
   rotates m a ea = rw (m, and-true) ea
 
   module _ (m : mode ≡ Measure) (a : Bool) (ea : a ≡ speedOk running) where
-    pub no-running : not a ≡ true → false ≡ (runningOk mode running && checksOk mode working step running)
+    pub no-running : not a ≡ true → false ≡ driveOk mode running working step
     no-running q = rw (m, said-no ea q)
 
     pub measures : not a ≡ false → (n : ℕ) → n ≡ measureError working step running
-        → eqb n 0 ≡ (runningOk mode running && checksOk mode working step running)
+        → eqb n 0 ≡ driveOk mode running working step
     measures q n e = rw (m, said-yes ea q, e)
 
 -- `job_ok`
@@ -66,27 +66,8 @@ module _ (mode : Mode) (job : Job) (a : Bool) (ea : a ≡ isMeasure mode) where
     endless-mask q b eb = rw (j, said-yes ea q) eb
 
 -- `in_range`
-module _ (s : State) (a : Bool) (ea : a ≡ configOk (s .id) (s .speed) (s .step .0)) where
-  pub no-config : not a ≡ true → false ≡ inRange s
-  unfolding inRange
-  no-config q = rw (said-no ea q)
-
-  module _ (qa : not a ≡ false) (b : Bool) (eb : b ≡ planInRange (s .working)) where
-    pub no-working : not b ≡ true → false ≡ inRange s
-    unfolding inRange
-    no-working q = rw (said-yes ea qa, said-no eb q)
-
-    module _ (qb : not b ≡ false) (c : Bool) (ec : c ≡ planInRange (s .stored)) where
-      pub no-stored : not c ≡ true → false ≡ inRange s
-      unfolding inRange
-      no-stored q = rw (said-yes ea qa, said-yes eb qb, said-no ec q)
-
-      module _ (qc : not c ≡ false) (d : Bool)
-          (ed : d ≡ (runningOk (s .mode) (s .running) && checksOk (s .mode) (s .working) (s .step .0) (s .running))) where
-        pub no-drive : not d ≡ true → false ≡ inRange s
-        unfolding inRange
-        no-drive q = rw (said-yes ea qa, said-yes eb qb, said-yes ec qc, said-no ed q)
-
-        pub a-job : not d ≡ false → (e : Bool) → e ≡ jobOk (s .mode) (s .job) → e ≡ inRange s
-        unfolding inRange
-        a-job q e ee = rw (said-yes ea qa, said-yes eb qb, said-yes ec qc, said-yes ed q) ee
+pub tests-are : (s : State) (a b c d e : Bool) → a ≡ configOk (s .id) (s .speed) (s .step .0) → b ≡ planInRange (s .working)
+    → c ≡ driveOk (s .mode) (s .running) (s .working) (s .step .0) → d ≡ jobOk (s .mode) (s .job) → e ≡ aloneOk s
+    → (a && b && c && d && e) ≡ inRange s
+unfolding inRange
+tests-are s a b c d e ea eb ec ed ee = rw (ea, eb, ec, ed, ee)

@@ -2,3 +2,5 @@ pub mod InRange
 pub mod Delivery
 pub mod Parts
 pub mod Measuring
+pub mod SameParts
+pub mod StateRows

@@ -1,30 +1,67 @@
 -- A state in its ranges, taken apart and put together again: one fact for each sentence of 'State and ranges'.
+use Prim.Native.Nat.{ℕ}
 use lib.Dec.{T}
+use Rattle.plan.specs.declared.Plan.{Plan}
 use Rattle.plan.specs.Sectors.{planInRange}
 use Rattle.words.proofs.Tests.{and-l, and-r, and-both}
 use Rattle.state.specs.declared.State.{State}
-use Rattle.state.specs.Ranges.{configOk, runningOk, checksOk, jobOk, inRange}
+use Rattle.state.specs.declared.Mode.{Mode}
+use Rattle.state.specs.declared.Job.{Job}
+use Rattle.state.specs.Fields.{withConfig, withPlans, withDrive, withPort, withCounter}
+use Rattle.state.specs.Ranges.{configOk, runningOk, checksOk, jobOk, aloneOk, inRange}
 
 pub record Parts (s : State) : Type 0 where
   pub config : T (configOk (s .id) (s .speed) (s .step .0))
   pub working : T (planInRange (s .working))
-  pub stored : T (planInRange (s .stored))
   pub running : T (runningOk (s .mode) (s .running))
   pub checks : T (checksOk (s .mode) (s .working) (s .step .0) (s .running))
   pub job : T (jobOk (s .mode) (s .job))
+  pub alone : T (aloneOk s)
 
 pub parts : (s : State) → T (inRange s) → Parts s
 unfolding inRange
 parts s h =
     record {
-      config = search (and-l, and-r);
-      working = search (and-l, and-r);
-      stored = search (and-l, and-r);
-      running = search (and-l, and-r);
-      checks = search (and-l, and-r);
-      job = search (and-l, and-r);
+      config = search (and-l, and-r) depth 12;
+      working = search (and-l, and-r) depth 12;
+      running = search (and-l, and-r) depth 12;
+      checks = search (and-l, and-r) depth 12;
+      job = search (and-l, and-r) depth 12;
+      alone = search (and-l, and-r) depth 12;
     }
 
 pub whole : (s : State) → Parts s → T (inRange s)
 unfolding inRange
-whole s p = search (and-both, p .config, p .working, p .stored, p .running, p .checks, p .job)
+whole s p = search (and-both, p .config, p .working, p .running, p .checks, p .job, p .alone) depth 12
+
+-- The stored plan, and the fields that stand alone where it is another.
+pub stored-of : (s : State) → Parts s → T (planInRange (s .stored))
+stored-of s p = p .alone
+
+stored-set : (s : State) → Parts s → (w t : Plan) → T (planInRange t) → T (aloneOk (withPlans s w t))
+stored-set s p w t b = b
+
+-- What is asked where some fields are set: the others are in their ranges as before. A new field that stands alone changes the two laws
+-- above, and none below.
+module _ (s : State) (p : Parts s) where
+  pub config-set : (id speed step : ℕ) → T (configOk id speed step) → T (checksOk (s .mode) (s .working) step (s .running))
+      → Parts (withConfig s id speed step)
+  config-set id speed step a b =
+      record { config = a; working = p .working; running = p .running; checks = b; job = p .job; alone = p .alone }
+
+  pub plans-set : (w t : Plan) → T (planInRange w) → T (planInRange t) → T (checksOk (s .mode) w (s .step .0) (s .running))
+      → Parts (withPlans s w t)
+  plans-set w t a b c =
+      record { config = p .config; working = a; running = p .running; checks = c; job = p .job; alone = stored-set s p w t b }
+
+  pub drive-set : (m : Mode) (r : ℕ) (j : Job) → T (runningOk m r) → T (checksOk m (s .working) (s .step .0) r) → T (jobOk m j)
+      → Parts (withDrive s m r j)
+  drive-set m r j a b c = record { config = p .config; working = p .working; running = a; checks = b; job = c; alone = p .alone }
+
+  pub port-set : (port : ℕ) → Parts (withPort s port)
+  port-set port =
+      record { config = p .config; working = p .working; running = p .running; checks = p .checks; job = p .job; alone = p .alone }
+
+  pub counter-set : (counter : ℕ) → Parts (withCounter s counter)
+  counter-set counter =
+      record { config = p .config; working = p .working; running = p .running; checks = p .checks; job = p .job; alone = p .alone }

@@ -1,6 +1,7 @@
--- The state with some of its fields set; the others stay. A new field of the state is added here, to `fresh` and to the ranges, and
--- nowhere else in any specs/.
+-- The state with some of its fields set; the others stay. A new field of the state is added here, to `freshState`, to `onlyIn` and to
+-- the ranges, and nowhere else in any specs/.
 use Prim.Native.Nat.{ℕ}
+use Rattle.units.specs.Units.{angle}
 use Rattle.plan.specs.declared.Plan.{Plan}
 use Rattle.state.specs.declared.State.{State}
 use Rattle.state.specs.declared.Mode.{Mode}
@@ -12,7 +13,7 @@ withConfig s id speed step =
     record {
       id = id;
       speed = speed;
-      step = record { 0 = step };
+      step = angle step;
       working = s .working;
       stored = s .stored;
       mode = s .mode;
@@ -54,9 +55,9 @@ withDrive s mode running job =
       job = job;
     }
 
--- port and profile counter
-abbrev pub withPort : State → ℕ → ℕ → State
-withPort s port counter =
+-- the port
+abbrev pub withPort : State → ℕ → State
+withPort s port =
     record {
       id = s .id;
       speed = s .speed;
@@ -66,6 +67,22 @@ withPort s port counter =
       mode = s .mode;
       running = s .running;
       port = port;
+      counter = s .counter;
+      job = s .job;
+    }
+
+-- the profile counter
+abbrev pub withCounter : State → ℕ → State
+withCounter s counter =
+    record {
+      id = s .id;
+      speed = s .speed;
+      step = s .step;
+      working = s .working;
+      stored = s .stored;
+      mode = s .mode;
+      running = s .running;
+      port = s .port;
       counter = counter;
       job = s .job;
     }

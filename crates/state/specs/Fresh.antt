@@ -1,16 +1,25 @@
--- Document 01, 'State and ranges': "Fresh state: id 1, speed 10, step 8, both plans sector 0 function 3 stop 5752 and the rest 0/0,
--- IDLE, port 0, counter 0, no job."
-use Rattle.plan.specs.Figures.{freshPlan}
+-- Document 01, 'State and ranges': the state of a sensor that was just switched on, and of one that measures.
+use mathlib.Core.Path.{_≡_}
+use mathlib.Core.List.{[], _∷_}
+use Prim.Native.Nat.{ℕ}
+use Rattle.units.specs.Units.{angle}
+use Rattle.plan.specs.declared.Plan.{Plan}
+use Rattle.plan.specs.Sectors.{sector, filled}
 use Rattle.state.specs.declared.State.{State}
-use Rattle.state.specs.declared.Mode.the-variants.{Idle}
-use Rattle.state.specs.declared.Job.the-variants.{Absent}
+use Rattle.state.specs.declared.Mode.the-variants.{Idle, Measure}
+use Rattle.state.specs.declared.Job.the-variants.{Absent, Counted}
+use Rattle.state.specs.Fields.{withConfig, withPlans, withDrive}
+
+-- one sector of function 3 that begins at 0
+abbrev pub freshPlan : Plan
+freshPlan = filled (sector 3 5752 ∷ [])
 
 abbrev pub freshState : State
 freshState =
     record {
       id = 1;
       speed = 10;
-      step = record { 0 = 8 };
+      step = angle 8;
       working = freshPlan;
       stored = freshPlan;
       mode = Idle;
@@ -19,3 +28,12 @@ freshState =
       counter = 0;
       job = Absent;
     }
+
+-- the contract of `fresh`
+abbrev pub FreshSays : State → Type 0
+FreshSays r = r ≡ freshState
+
+-- a fresh sensor, but that it measures with a plan at a step and a running speed, with a job of one profile
+abbrev pub measuring : Plan → ℕ → ℕ → ℕ → State
+measuring p step running mask =
+    withDrive (withPlans (withConfig freshState (freshState .id) (freshState .speed) step) p p) Measure running (Counted 1 mask 0)

@@ -1,6 +1,9 @@
 -- To be read in this order.
 pub mod Modes
+pub mod Jobs
 pub mod Fields
+pub mod Changes
 pub mod Ranges
 pub mod Fresh
 pub mod Replies
+pub mod Figures

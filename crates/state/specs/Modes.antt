@@ -1,4 +1,4 @@
--- Document 01, 'Services': "SENSTAT: high word 0, low word 1 IDLE, 2 ROTATE, 3 MEASURE".
+-- Document 01, 'Services': the number of a mode, which SENSTAT has for its low word.
 use Prim.Native.Nat.{ℕ}
 use Rattle.state.specs.declared.Mode.{Mode}
 use Rattle.state.specs.declared.Mode.the-variants.{Idle, Rotate, Measure}

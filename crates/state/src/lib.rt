@@ -13,6 +13,7 @@ pub use ranges::in_range;
 pub use ranges::is_measure;
 pub use ranges::speed_ok;
 pub use setters::with_config;
+pub use setters::with_counter;
 pub use setters::with_drive;
 pub use setters::with_plans;
 pub use setters::with_port;

@@ -1,7 +1,6 @@
 // The test of the ranges: refusal 1 is its failing.
 ghost use mathlib.Core.Path.{_≡_};
-ghost use mathlib.Core.Bool.{_&&_};
-ghost use Rattle.state.specs.Ranges.{speedOk, configOk, runningOk, checksOk, isMeasure, jobOk, inRange};
+ghost use Rattle.state.specs.Ranges.{speedOk, configOk, driveOk, isMeasure, jobOk, aloneOk, inRange};
 use crate::Job;
 use crate::Mode;
 use crate::State;
@@ -36,7 +35,7 @@ pub fn config_ok(id: u16, speed: u16, step: Angle) -> bool
 
 // The running speed goes with the mode, and in MEASURE the working plan passes the four checks.
 fn drive_ok(mode: Mode, running: u16, working: Plan, step: Angle) -> bool
-    ensures { λ r. ⌜ r ≡ (runningOk mode running && checksOk mode working (step .0) running) ⌝ }
+    ensures { λ r. ⌜ r ≡ driveOk mode running working (step .0) ⌝ }
 {
     match mode {
         Mode::Idle => running == 0,
@@ -70,7 +69,7 @@ fn job_ok(mode: Mode, job: Job) -> bool
             if !is_measure(mode) {
                 return false;
             }
-            if !layout::mask_ok(mask) {
+            if !layout::mask_ok(mask as u32) {
                 return false;
             }
             if left < 1 {
@@ -82,31 +81,31 @@ fn job_ok(mode: Mode, job: Job) -> bool
             if !is_measure(mode) {
                 return false;
             }
-            layout::mask_ok(mask)
+            layout::mask_ok(mask as u32)
         }
     }
 }
 
-// Every field is in its range.
+// The fields that no other field goes with.
+fn alone_ok(state: State) -> bool
+    ensures { λ r. ⌜ r ≡ aloneOk state ⌝ }
+{
+    let stored = state.stored;
+    plan::plan_in_range(stored)
+}
+
+// Every field is in its range. A state is so as a rule, so no test is left out.
 pub fn in_range(state: State) -> bool
     ensures { λ r. ⌜ r ≡ inRange state ⌝ }
 {
     let step = state.step;
-    if !config_ok(state.id, state.speed, step) {
-        return false;
-    }
     let working = state.working;
-    if !plan::plan_in_range(working) {
-        return false;
-    }
-    let stored = state.stored;
-    if !plan::plan_in_range(stored) {
-        return false;
-    }
     let mode = state.mode;
-    if !drive_ok(mode, state.running, working, step) {
-        return false;
-    }
     let job = state.job;
-    job_ok(mode, job)
+    let configured = config_ok(state.id, state.speed, step);
+    let works = plan::plan_in_range(working);
+    let drives = drive_ok(mode, state.running, working, step);
+    let sends = job_ok(mode, job);
+    let keeps = alone_ok(state);
+    configured & works & drives & sends & keeps
 }

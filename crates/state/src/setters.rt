@@ -1,6 +1,6 @@
 // The state with some of its fields set. No other code writes a state out: a new field is added to `State` and to `fresh`.
 ghost use mathlib.Core.Path.{_≡_};
-ghost use Rattle.state.specs.Fields.{withConfig, withPlans, withDrive, withPort};
+ghost use Rattle.state.specs.Fields.{withConfig, withPlans, withDrive, withPort, withCounter};
 use crate::Job;
 use crate::Mode;
 use crate::State;
@@ -39,12 +39,14 @@ pub fn with_drive(state: State, mode: Mode, running: u16, job: Job) -> State
     }
 }
 
-pub fn with_port(state: State, port: u8, counter: u16) -> State
-    ensures { λ r. ⌜ r ≡ withPort state port counter ⌝ }
+pub fn with_port(state: State, port: u8) -> State
+    ensures { λ r. ⌜ r ≡ withPort state port ⌝ }
 {
-    State {
-        port,
-        counter,
-        ..state
-    }
+    State { port, ..state }
+}
+
+pub fn with_counter(state: State, counter: u16) -> State
+    ensures { λ r. ⌜ r ≡ withCounter state counter ⌝ }
+{
+    State { counter, ..state }
 }

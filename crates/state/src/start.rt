@@ -1,6 +1,6 @@
 // The state of a sensor that was just switched on.
 ghost use mathlib.Core.Path.{_≡_};
-ghost use Rattle.state.specs.Fresh.{freshState};
+ghost use Rattle.state.specs.Fresh.{FreshSays};
 use crate::Job;
 use crate::Mode;
 use crate::State;
@@ -9,12 +9,9 @@ use plan::Sector;
 use units::Angle;
 
 pub fn fresh() -> State
-    ensures { λ r. ⌜ r ≡ freshState ⌝ }
+    ensures { λ r. ⌜ FreshSays r ⌝ }
 {
-    let unused = Sector {
-        function: 0,
-        stop: Angle(0),
-    };
+    let unused = plan::unused();
     let zeroth = Sector {
         function: 3,
         stop: Angle(5752),

@@ -1,1 +1,4 @@
+-- To be read in this order.
+pub mod Units
 pub mod Directions
+pub mod Times

@@ -2,18 +2,20 @@
 use Prim.Native.Nat.{ℕ, zero, suc, _+_}
 use mathlib.Core.Path.{_≡_, refl, sym, _∙_, ap, subst}
 use mathlib.Core.List.{List, [], _∷_, _++_, append-assoc}
-use lib.ListN.{length, drop}
+use native.Mathlib.Omega.{arith}
+use lib.ListN.{length, drop, length-append}
 use Rattle.words.specs.Lists.{none, this}
 use Rattle.words.specs.Words.{laidAll}
 use Rattle.words.specs.Parse.{Got, short, got, Parser, after, mapGot, timesParse}
 use Rattle.words.specs.Format.{Format, chain, AllOk, times}
-use Rattle.words.proofs.Lawful.{Sound, SoundOf, KeptOf, InsideOf, Complete, Lawful}
+use Rattle.words.proofs.Lawful.{Sound, SoundOf, KeptOf, InsideOf, StandsOf, Complete, Lawful}
 
 -- m is k and then l, which may go by what k read; make puts what both read together
 pub record Makes {A F B G C H : Type 0} (k : Format A F) (l : A → Format B G) (m : Format C H) (make : A → B → C) : Type 0 where
   pub put : (W : List ℕ) (a : A) (c : B) → m .put (m .strip W (make a c)) ≡ k .put (k .strip W a) ++ l a .put (l a .strip W c)
   pub ok : (W : List ℕ) (a : A) (c : B) → k .ok (k .strip W a) → l a .ok (l a .strip W c) → m .ok (m .strip W (make a c))
   pub inside : (n : ℕ) (a : A) (c : B) → k .inside n a → l a .inside n c → m .inside n (make a c)
+  pub stands : (W : List ℕ) (b : ℕ) (a : A) (c : B) → k .stands W b a → l a .stands W (b + length (k .put (k .strip W a))) c → m .stands W b (make a c)
 
 -- k and then l
 abbrev pub both : {A B C : Type 0} → Got A → (A → Parser B) → (A → B → C) → Got C
@@ -54,6 +56,18 @@ module _ {A F B G C H : Type 0} (k : Format A F) (l : A → Format B G) (m : For
   both-kept b ws short s t = tt
   both-kept b ws (got a b₁ ws₁) s t = second-kept b ws a b₁ ws₁ s (l a .parse b₁ ws₁) (t a b₁ ws₁)
 
+  second-located : (W : List ℕ) (b : ℕ) (a : A) → k .stands W b a → (b₁ : ℕ) → b₁ ≡ b + length (k .put (k .strip W a)) → (g : Got B)
+      → StandsOf (l a) W b₁ g → StandsOf m W b (mapGot (make a) g)
+  second-located W b a s b₁ e short t = tt
+  second-located W b a s b₁ e (got c b₂ ws₂) t = made .stands W b a c s (rw e at t)
+
+  pub both-located : (W : List ℕ) (b : ℕ) (g : Got A) → SoundOf k W b g → KeptOf b (drop b W) g → StandsOf k W b g
+      → ((a : A) (b₁ : ℕ) → StandsOf (l a) W b₁ (l a .parse b₁ (drop b₁ W))) → StandsOf m W b (both g (λ a. l a .parse) make)
+  both-located W b short s e h t = tt
+  both-located W b (got a b₁ ws₁) s e h t =
+      let long = ap length (s .words) ∙ length-append (k .put (k .strip W a)) ws₁ in
+      rw (← s .rest) (second-located W b a h b₁ (omega arith) (l a .parse b₁ (drop b₁ W)) (t a b₁))
+
 pub both-read : {A F B G C : Type 0} (k : Format A F) (l : A → Format B G) (make : A → B → C) (W : List ℕ) (b : ℕ) (f : F) (g : G) (mid post : List ℕ)
     → (s : Complete k W b f mid) (t : Complete (l (s .value)) W (s .place) g post)
     → both (k .parse b (drop b W)) (λ a. l a .parse) make ≡ got (make (s .value) (t .value)) (t .place) post
@@ -63,7 +77,13 @@ both-read k l make W b f g mid post s t = rw (s .reads, ← s .behind, t .reads)
 module _ {K A F B G : Type 0} (k : Format A F) (key : A → K) (keyF : F → K) (l : K → Format B G)
     (k-lawful : Lawful k) (l-lawful : (x : K) → Lawful (l x)) (keys : (W : List ℕ) (a : A) → keyF (k .strip W a) ≡ key a) where
   chain-makes : Makes k (λ a. l (key a)) (chain k key keyF l) (λ a c. (a, c))
-  chain-makes = record { put = λ W a c. rw (keys W a); ok = λ W a c s t. (s, rw (keys W a) t); inside = λ n a c s t. (s, t) }
+  chain-makes =
+      record {
+        put = λ W a c. rw (keys W a);
+        ok = λ W a c s t. (s, rw (keys W a) t);
+        inside = λ n a c s t. (s, t);
+        stands = λ W b a c s t. (s, t);
+      }
 
   chain-complete : (W : List ℕ) (b : ℕ) (f : F × G) (post : List ℕ) → chain k key keyF l .ok f
       → Complete k W b (f .0) (l (keyF (f .0)) .put (f .1) ++ post) → Complete (chain k key keyF l) W b f post
@@ -86,12 +106,16 @@ module _ {K A F B G : Type 0} (k : Format A F) (key : A → K) (keyF : F → K) 
         complete = λ W b f post o e. chain-complete W b f post o (k-lawful .complete W b (f .0) (l (keyF (f .0)) .put (f .1) ++ post) (o .0) (rw append-assoc at e));
         kept = λ b ws. both-kept k _ _ _ chain-makes b ws (k .parse b ws) (k-lawful .kept b ws) (λ a. l-lawful (key a) .kept);
         within = λ b ws. both-within k _ _ _ chain-makes b ws (k .parse b ws) (k-lawful .kept b ws) (k-lawful .within b ws) (λ a. l-lawful (key a) .within);
+        located =
+            λ W b. both-located k _ _ _ chain-makes W b (k .parse b (drop b W)) (k-lawful .sound W b) (k-lawful .kept b (drop b W)) (k-lawful .located W b)
+            (λ a. l-lawful (key a) .located W);
       }
 
 -- n times
 module _ {A F : Type 0} (k : Format A F) (k-lawful : Lawful k) where
   times-makes : (n : ℕ) → Makes k (λ _. times n k) (times (suc n) k) (λ x xs. x ∷ xs)
-  times-makes n = record { put = λ W a c. refl; ok = λ W a c s t. (s, t); inside = λ n a c s t. this s t }
+  times-makes n =
+      record { put = λ W a c. refl; ok = λ W a c s t. (s, t); inside = λ n a c s t. this s t; stands = λ W b a c s t. (s, t) }
 
   times-sound : (n : ℕ) (W : List ℕ) (b : ℕ) → SoundOf (times n k) W b (timesParse n (k .parse) b (drop b W))
   times-sound zero W b = record { rest = refl; words = refl; fits = tt }
@@ -120,5 +144,11 @@ module _ {A F : Type 0} (k : Format A F) (k-lawful : Lawful k) where
   times-within zero b ws = none
   times-within (suc n) b ws = both-within k _ _ _ (times-makes n) b ws (k .parse b ws) (k-lawful .kept b ws) (k-lawful .within b ws) (λ a. times-within n)
 
+  times-located : (n : ℕ) (W : List ℕ) (b : ℕ) → StandsOf (times n k) W b (timesParse n (k .parse) b (drop b W))
+  times-located zero W b = tt
+  times-located (suc n) W b =
+      both-located k _ _ _ (times-makes n) W b (k .parse b (drop b W)) (k-lawful .sound W b) (k-lawful .kept b (drop b W)) (k-lawful .located W b)
+      (λ a. times-located n W)
+
   pub times-lawful : (n : ℕ) → Lawful (times n k)
-  times-lawful n = record { sound = times-sound n; complete = times-complete n; kept = times-kept n; within = times-within n }
+  times-lawful n = record { sound = times-sound n; complete = times-complete n; kept = times-kept n; within = times-within n; located = times-located n }

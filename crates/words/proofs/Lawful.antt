@@ -34,6 +34,10 @@ abbrev pub InsideOf : {A F : Type 0} → Format A F → ℕ → Got A → Type 0
 InsideOf c n short = Unit {0}
 InsideOf c n (got a b′ ws′) = c .inside n a
 
+abbrev pub StandsOf : {A F : Type 0} → Format A F → List ℕ → ℕ → Got A → Type 0
+StandsOf c W b short = Unit {0}
+StandsOf c W b (got a b′ ws′) = c .stands W b a
+
 -- what was laid out at place b is read back
 pub record Complete {A F : Type 0} (c : Format A F) (W : List ℕ) (b : ℕ) (f : F) (post : List ℕ) : Type 0 where
   pub value : A
@@ -47,6 +51,7 @@ pub record Lawful {A F : Type 0} (c : Format A F) : Type 0 where
   pub complete : (W : List ℕ) (b : ℕ) (f : F) (post : List ℕ) → c .ok f → drop b W ≡ c .put f ++ post → Complete c W b f post
   pub kept : (b : ℕ) (ws : List ℕ) → KeptOf b ws (c .parse b ws)
   pub within : (b : ℕ) (ws : List ℕ) → InsideOf c (b + length ws) (c .parse b ws)
+  pub located : (W : List ℕ) (b : ℕ) → StandsOf c W b (c .parse b (drop b W))
 
 pub nothing-lawful : Lawful nothing
 nothing-lawful =
@@ -55,6 +60,7 @@ nothing-lawful =
       complete = λ W b f post o e. record { value = tt; place = b; reads = ap (got tt b) e; same = refl; behind = e };
       kept = λ b ws. refl;
       within = λ b ws. tt;
+      located = λ W b. tt;
     }
 
 -- one word
@@ -68,7 +74,8 @@ one-sound false W b ws h = record { rest = h; words = h; fits = tt }
 one-sound true W b [] h = tt
 one-sound true W b (w ∷ ws) h = record { rest = next W b w ws h; words = h; fits = tt }
 
-one-complete : (on : Bool) (W : List ℕ) (b : ℕ) (w : Word) (post : List ℕ) → Shaped on w → drop b W ≡ wordsOf w ++ post → Complete (one on) W b w post
+one-complete : (on : Bool) (W : List ℕ) (b : ℕ) (w : Word) (post : List ℕ) → Shaped on w → drop b W ≡ wordsOf w ++ post
+    → Complete (one on) W b w post
 one-complete false W b Absent post o e = record { value = Absent; place = b; reads = ap (got Absent b) e; same = refl; behind = e }
 one-complete false W b (Given w) post o e = absurd o
 one-complete true W b Absent post o e = absurd o
@@ -85,8 +92,20 @@ one-within false b ws = tt
 one-within true b [] = tt
 one-within true b (w ∷ ws) = tt
 
+one-located : (on : Bool) (W : List ℕ) (b : ℕ) (ws : List ℕ) → StandsOf (one on) W b (word on b ws)
+one-located false W b ws = tt
+one-located true W b [] = tt
+one-located true W b (w ∷ ws) = tt
+
 pub one-lawful : (on : Bool) → Lawful (one on)
-one-lawful on = record { sound = λ W b. one-sound on W b (drop b W) refl; complete = one-complete on; kept = one-kept on; within = one-within on }
+one-lawful on =
+    record {
+      sound = λ W b. one-sound on W b (drop b W) refl;
+      complete = one-complete on;
+      kept = one-kept on;
+      within = one-within on;
+      located = λ W b. one-located on W b (drop b W);
+    }
 
 -- n words
 
@@ -120,6 +139,7 @@ many-lawful n =
       complete = many-complete n;
       kept = λ b ws. by-span (KeptOf b ws) n b ws (λ h. omega (arith, length-drop n ws)) (λ _. tt);
       within = λ b ws. by-span (InsideOf (many n) (b + length ws)) n b ws (λ h. omega arith) (λ _. tt);
+      located = λ W b. by-span (StandsOf (many n) W b) n b (drop b W) (λ _. refl) (λ _. tt);
     }
 
 -- the same under other types
@@ -150,6 +170,10 @@ module _ {A F B G : Type 0} (to : A → B) (from : B → A) (toF : F → G) (fro
   recast-within n short s = tt
   recast-within n (got a b′ ws′) s = subst (k .inside n) (sym (back a)) s
 
+  recast-located : (W : List ℕ) (b : ℕ) (g : Got A) → StandsOf k W b g → StandsOf (recast to from toF fromF k) W b (mapGot to g)
+  recast-located W b short s = tt
+  recast-located W b (got a b′ ws′) s = subst (k .stands W b) (sym (back a)) s
+
   pub recast-lawful : Lawful (recast to from toF fromF k)
   recast-lawful =
       record {
@@ -157,4 +181,5 @@ module _ {A F B G : Type 0} (to : A → B) (from : B → A) (toF : F → G) (fro
         complete = λ W b f post o e. recast-complete W b f post (k-lawful .complete W b (fromF f) post o e);
         kept = λ b ws. recast-kept b ws (k .parse b ws) (k-lawful .kept b ws);
         within = λ b ws. recast-within (b + length ws) (k .parse b ws) (k-lawful .within b ws);
+        located = λ W b. recast-located W b (k .parse b (drop b W)) (k-lawful .located W b);
       }

@@ -97,14 +97,85 @@ module _ {d : List ℕ} {at : ℕ} (inside : at ≤ length d) where
       → Put ws d at (take at d ++ (part ++ drop (length d - at) (drop at d))) (at + n)
   lent-put w = as-put (and-lent at-place w)
 
+-- words that are put in two parts: room for the first, for the second behind it, and what both put
+module _ (d : List ℕ) (at : ℕ) (ws vs : List ℕ) (all : at + length (ws ++ vs) ≤ length d) where
+  pub room-first : at + length ws ≤ length d
+  room-first = let h = rw length-append at all in omega arith
+
+  module _ {d' : List ℕ} {r : ℕ} (p : Put ws d at d' r) where
+    pub room-second : r + length vs ≤ length d'
+    room-second = let h = rw length-append at all in put-room (omega arith) p vs (omega arith)
+
+    pub put-both : {d'' : List ℕ} {r' : ℕ} → Put vs d' r d'' r' → Put (ws ++ vs) d at d'' r'
+    put-both q = let h = rw length-append at all in put-then (omega arith) p q
+
+-- in five parts, one after another
+module _ (d : List ℕ) (at : ℕ) (a b c e f : List ℕ) (all : at + length (a ++ b ++ c ++ e ++ f) ≤ length d) where
+  four : at + length (a ++ b ++ c ++ e) ≤ length d
+  four = room-first d at (a ++ b ++ c ++ e) f all
+
+  three : at + length (a ++ b ++ c) ≤ length d
+  three = room-first d at (a ++ b ++ c) e four
+
+  two : at + length (a ++ b) ≤ length d
+  two = room-first d at (a ++ b) c three
+
+  pub room-of-1 : at + length a ≤ length d
+  room-of-1 = room-first d at a b two
+
+  module _ {d₁ : List ℕ} {r₁ : ℕ} (p : Put a d at d₁ r₁) where
+    pub room-of-2 : r₁ + length b ≤ length d₁
+    room-of-2 = room-second d at a b two p
+
+    module _ {d₂ : List ℕ} {r₂ : ℕ} (q : Put b d₁ r₁ d₂ r₂) where
+      put-2 : Put (a ++ b) d at d₂ r₂
+      put-2 = put-both d at a b two p q
+
+      pub room-of-3 : r₂ + length c ≤ length d₂
+      room-of-3 = room-second d at (a ++ b) c three put-2
+
+      module _ {d₃ : List ℕ} {r₃ : ℕ} (r : Put c d₂ r₂ d₃ r₃) where
+        put-3 : Put (a ++ b ++ c) d at d₃ r₃
+        put-3 = put-both d at (a ++ b) c three put-2 r
+
+        pub room-of-4 : r₃ + length e ≤ length d₃
+        room-of-4 = room-second d at (a ++ b ++ c) e four put-3
+
+        module _ {d₄ : List ℕ} {r₄ : ℕ} (s : Put e d₃ r₃ d₄ r₄) where
+          put-4 : Put (a ++ b ++ c ++ e) d at d₄ r₄
+          put-4 = put-both d at (a ++ b ++ c) e four put-3 s
+
+          pub room-of-5 : r₄ + length f ≤ length d₄
+          room-of-5 = room-second d at (a ++ b ++ c ++ e) f all put-4
+
+          pub put-5 : {d₅ : List ℕ} {r₅ : ℕ} → Put f d₄ r₄ d₅ r₅ → Put (a ++ b ++ c ++ e ++ f) d at d₅ r₅
+          put-5 t = put-both d at (a ++ b ++ c ++ e) f all put-4 t
+
 -- a put at the start is a write of the front
 pub put-first : {ws d d' : List ℕ} {r : ℕ} → Put ws d 0 d' r → Wrote ws d d' r
 put-first p = and-put (none-yet _) p
+
+-- and ends within the buffer
+pub put-ends : {ws d d' : List ℕ} {r : ℕ} → Put ws d 0 d' r → r ≤ length d'
+unfolding over
+put-ends p = let w = put-first p in rw (w .words, w .counted, length-append) (omega arith)
 
 -- blocks in turn: one more, and no more than all
 pub turn-more : (f : ℕ → List ℕ) (i : ℕ) → inTurn f (i + 1) ≡ inTurn f i ++ f i
 unfolding inTurn
 turn-more f i = rw add-one
+
+-- the first one taken off
+pub turn-first : (f : ℕ → List ℕ) (n : ℕ) → inTurn f (suc n) ≡ f 0 ++ inTurn (λ j. f (suc j)) n
+unfolding inTurn
+turn-first f zero = sym (append-nil (f 0))
+turn-first f (suc n) = rw (turn-first f n, append-assoc)
+
+-- blocks that are equal one by one are equal in turn
+pub turns-same : (f h : ℕ → List ℕ) (n : ℕ) → ((i : ℕ) → i < n → f i ≡ h i) → inTurn f n ≡ inTurn h n
+unfolding inTurn
+turns-same f h zero e = refl
+turns-same f h (suc n) e = rw (turns-same f h n (λ i l. e i (omega arith)), e n (omega arith)) refl
 
 turns-grow : (f : ℕ → List ℕ) (i k : ℕ) → length (inTurn f i) ≤ length (inTurn f (i + k))
 unfolding inTurn

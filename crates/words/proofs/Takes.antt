@@ -12,18 +12,19 @@ use Rattle.words.specs.declared.Word.the-variants.{Absent, Given}
 use Rattle.words.specs.declared.Took.{Took}
 use Rattle.words.specs.Places.{takeAt}
 
-module _ (on : Bool) (ws : List ℕ) (at : ℕ) where
-  pub take-there : on ≡ true → at < length ws → record { word = Given (getD ws at 0); at = at + 1 } ≡ takeAt on ws at
+-- by the answer of the test whether the word is on
+module _ {t : Bool} (on : Bool) (is : t ≡ on) (ws : List ℕ) (at : ℕ) where
+  pub take-there : t ≡ true → at < length ws → record { word = Given (getD ws at 0); at = at + 1 } ≡ takeAt on ws at
   unfolding takeAt
-  take-there e h = rw (e, lt-ltb at (length ws) h)
+  take-there e h = rw (← is, e, lt-ltb at (length ws) h)
 
-  pub take-ended : on ≡ true → length ws ≤ at → record { word = Absent; at = length ws + 1 } ≡ takeAt on ws at
+  pub take-ended : t ≡ true → length ws ≤ at → record { word = Absent; at = length ws + 1 } ≡ takeAt on ws at
   unfolding takeAt
-  take-ended e h = rw (e, le-ltb at (length ws) h)
+  take-ended e h = rw (← is, e, le-ltb at (length ws) h)
 
-  pub take-off : on ≡ false → record { word = Absent; at = at } ≡ takeAt on ws at
+  pub take-off : t ≡ false → record { word = Absent; at = at } ≡ takeAt on ws at
   unfolding takeAt
-  take-off e = rw e
+  take-off e = rw (← is, e)
 
 -- the place behind a word, and behind n words
 pub take-within : (on : Bool) (ws : List ℕ) (at : ℕ) → at ≤ length ws + 1 → takeAt on ws at .at ≤ length ws + 1

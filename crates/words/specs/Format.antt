@@ -21,13 +21,31 @@ pub record Format (A F : Type 0) : Type 1 where
   pub ok : F → Type 0
   -- each run that was found ends within so many words
   pub inside : ℕ → A → Type 0
+  -- each run that was found, read from a place of the whole list on, begins where the words in front of it end
+  pub stands : List ℕ → ℕ → A → Type 0
 
 abbrev pub nothing : Format (Unit {0}) (Unit {0})
-nothing = record { parse = λ b ws. got tt b ws; put = λ _. []; strip = λ _ _. tt; ok = λ _. Unit {0}; inside = λ _ _. Unit {0} }
+nothing =
+    record {
+      parse = λ b ws. got tt b ws;
+      put = λ _. [];
+      strip = λ _ _. tt;
+      ok = λ _. Unit {0};
+      inside = λ _ _. Unit {0};
+      stands = λ _ _ _. Unit {0};
+    }
 
 -- a word that is there where it is on
 abbrev pub one : Bool → Format Word Word
-one on = record { parse = word on; put = wordsOf; strip = λ _ w. w; ok = Shaped on; inside = λ _ _. Unit {0} }
+one on =
+    record {
+      parse = word on;
+      put = wordsOf;
+      strip = λ _ w. w;
+      ok = Shaped on;
+      inside = λ _ _. Unit {0};
+      stands = λ _ _ _. Unit {0};
+    }
 
 -- n words
 abbrev pub many : ℕ → Format Span (List ℕ)
@@ -38,6 +56,7 @@ many n =
       strip = λ W s. take (s .len) (drop (s .start) W);
       ok = λ f. length f ≡ n;
       inside = λ n s. s .start + s .len ≤ n;
+      stands = λ W b s. s .start ≡ b;
     }
 
 -- k and then l, which may go by what was read first
@@ -49,6 +68,7 @@ chain k key keyF l =
       strip = λ W a. (k .strip W (a .0), l (key (a .0)) .strip W (a .1));
       ok = λ f. k .ok (f .0) × l (keyF (f .0)) .ok (f .1);
       inside = λ n a. k .inside n (a .0) × l (key (a .0)) .inside n (a .1);
+      stands = λ W b a. k .stands W b (a .0) × l (key (a .0)) .stands W (b + length (k .put (k .strip W (a .0)))) (a .1);
     }
 
 abbrev pub optional : {B G : Type 0} → Bool → (Word → Format B G) → Format (Word × B) (Word × G)
@@ -63,6 +83,11 @@ AllOk ok zero (f ∷ fs) = ⊥
 AllOk ok (suc n) [] = ⊥
 AllOk ok (suc n) (f ∷ fs) = ok f × AllOk ok n fs
 
+-- one after another, each from where the one before it ends
+abbrev pub AllStand : {A F : Type 0} → Format A F → List ℕ → ℕ → List A → Type 0
+AllStand k W b [] = Unit {0}
+AllStand k W b (a ∷ as′) = k .stands W b a × AllStand k W (b + length (k .put (k .strip W a))) as′
+
 abbrev pub times : {A F : Type 0} → ℕ → Format A F → Format (List A) (List F)
 times n k =
     record {
@@ -71,6 +96,7 @@ times n k =
       strip = λ W. map (k .strip W);
       ok = AllOk (k .ok) n;
       inside = λ n. Each (k .inside n);
+      stands = AllStand k;
     }
 
 -- the same under other types
@@ -82,4 +108,5 @@ recast to from toF fromF k =
       strip = λ W a. toF (k .strip W (from a));
       ok = λ g. k .ok (fromF g);
       inside = λ n a. k .inside n (from a);
+      stands = λ W b a. k .stands W b (from a);
     }

@@ -1,7 +1,7 @@
 -- Tests and counts over a list.
 use mathlib.Core.Bool.{Bool, true, false, _&&_}
 use mathlib.Core.List.{List, [], _∷_}
-use Prim.Native.Nat.{ℕ, suc, _+_}
+use Prim.Native.Nat.{ℕ, _+_}
 use lib.Dec.{ltb}
 use Rattle.words.specs.Choice.{if_then_else_}
 
@@ -33,8 +33,3 @@ total number (x ∷ xs) = number x + total number xs
 -- each is a word of 16 bits
 abbrev pub areWords : List ℕ → Bool
 areWords ws = every (λ w. ltb w 65536) ws
-
--- the number of the first test that holds, counted from n on; 0 where none holds
-abbrev pub firstOf : ℕ → List Bool → ℕ
-firstOf n [] = 0
-firstOf n (test ∷ tests) = if test then n else firstOf (suc n) tests

@@ -4,9 +4,9 @@ use mathlib.Core.List.{List, map}
 use Prim.Native.Nat.{ℕ}
 
 pub record Row : Type 0 where
-  pub given : List ℕ
+  pub value : List ℕ
   pub figure : List ℕ
 
 -- every row of a list gives its figure
 abbrev pub Shown : List Row → Type 0
-Shown rows = map (λ (r : Row). r .given) rows ≡ map (λ (r : Row). r .figure) rows
+Shown rows = map (λ (r : Row). r .value) rows ≡ map (λ (r : Row). r .figure) rows

@@ -2,6 +2,7 @@
 use mathlib.Core.Bool.{Bool, true, false}
 use mathlib.Core.List.{List, [], _∷_, _++_}
 use Prim.Native.Nat.{ℕ}
+use lib.ListN.{getD}
 use Rattle.words.specs.declared.Word.{Word}
 use Rattle.words.specs.declared.Word.the-variants.{Absent, Given}
 
@@ -10,15 +11,14 @@ abbrev pub givenIf : Bool → ℕ → Word
 givenIf true w = Given w
 givenIf false w = Absent
 
--- the word itself, as a list
+-- the word itself, as a list, case by case
 abbrev pub wordsOf : Word → List ℕ
 wordsOf Absent = []
 wordsOf (Given w) = w ∷ []
 
--- the number of a word, 0 where it is absent
+-- its number, 0 where it is absent
 abbrev pub numberOf : Word → ℕ
-numberOf Absent = 0
-numberOf (Given w) = w
+numberOf w = getD (wordsOf w) 0 0
 
 -- given exactly where it is selected
 abbrev pub Shaped : Bool → Word → Type 0

@@ -1,7 +1,9 @@
 // 16-bit words, and lists of them.
+mod bits;
 mod optional;
 mod plain;
 
+pub use bits::has_bit;
 pub use optional::skip;
 pub use optional::take_word;
 pub use plain::product;

@@ -1,14 +1,16 @@
 // Words that a mask selects, taken one after another by their places.
 ghost use mathlib.Core.Path.{_≡_};
+ghost use Rattle.words.specs.Bits.{bit};
 ghost use Rattle.words.specs.Places.{takeAt, skipAt};
 use crate::Took;
 use crate::Word;
+use crate::bits::has_bit;
 
-// The word at a place, where it is on.
-pub fn take_word(words: &[u16], at: usize, on: bool) -> Took
-    ensures { λ r. ⌜ r ≡ takeAt on (now (words .entry)) at ⌝ }
+// The word at a place, where the mask has its bit.
+pub fn take_word(words: &[u16], at: usize, mask: u32, k: u32) -> Took
+    ensures { λ r. ⌜ r ≡ takeAt (bit mask k) (now (words .entry)) at ⌝ }
 {
-    if on {
+    if has_bit(mask, k) {
         if at < words.len() {
             return Took {
                 word: Word::Given(words[at]),

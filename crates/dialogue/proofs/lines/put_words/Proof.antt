@@ -4,7 +4,8 @@ use lib.ListN.{length}
 use borrow.Author.Needs.{needs}
 use Rattle.words.specs.Buffers.{Put}
 use Rattle.words.proofs.Puts.{turns-none, turn-put, turns-all}
-use Rattle.dialogue.proofs.Parts.{hexes, hex-fits}
+use Rattle.dialogue.specs.Lines.{hexes}
+use Rattle.dialogue.proofs.Parts.{hex-fits}
 use Rattle.dialogue.proofs.lines.put_words.Statement.{statement}
 use Rattle.dialogue.proofs.lines.put_words.Tie as tie
 

@@ -3,6 +3,7 @@ use Prim.Native.Nat.{_-_, _*_, _≤_}
 use native.Mathlib.Omega.{arith}
 use lib.ListN.{length, getD, drop}
 use borrow.Author.Needs.{needs}
+use Rattle.units.specs.Directions.{circle}
 use Rattle.words.proofs.Arrays.{long}
 use Rattle.plan.proofs.Walk.{at-zero, at-end, arc-ends, arc-here, arc-more}
 use Rattle.plan.proofs.ArcSums.{arc-start, shots-more, shots-fit}
@@ -15,7 +16,7 @@ abbrev Inv-loop : tie.InvT-loop
 Inv-loop step place sectors before₀ shot₀ i₀ before shot i =
     (length sectors ≡ 8)
     × (i ≤ place)
-    × (shot ≤ i * 5760)
+    × (shot ≤ i * circle)
     × (getD (arcsFrom (step .0) (before .0) shot (active (drop i sectors))) (place - i) noArc ≡ getD (arcs (step .0) (active sectors)) place noArc)
 
 pub arc-at-spec : {M : Type 1} → statement M

@@ -3,6 +3,7 @@ use Prim.Native.Nat.{_+_, _-_, _*_, _≤_}
 use native.Mathlib.Omega.{arith}
 use lib.ListN.{drop}
 use borrow.Author.Needs.{needs}
+use Rattle.units.specs.Directions.{circle}
 use Rattle.words.proofs.Arrays.{long}
 use Rattle.plan.proofs.ArcSums.{count-fits, lit-start, lit-ends, lit-more, lit-bound, lit-fits}
 use Rattle.plan.specs.Sectors.{activeOf}
@@ -13,7 +14,7 @@ use Rattle.plan.proofs.checks.lit_shots.Tie as tie
 
 abbrev Inv-loop : tie.InvT-loop
 Inv-loop plan step n sum₀ k₀ sum k =
-    (n ≤ 8) × (sum ≤ k * 5760) × (sum + shotsWith isLit (drop k (arcs (step .0) (activeOf plan))) ≡ litShots plan (step .0))
+    (n ≤ 8) × (sum ≤ k * circle) × (sum + shotsWith isLit (drop k (arcs (step .0) (activeOf plan))) ≡ litShots plan (step .0))
 
 pub lit-shots-spec : {M : Type 1} → statement M
 lit-shots-spec =

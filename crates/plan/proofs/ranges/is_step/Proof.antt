@@ -6,4 +6,5 @@ use Rattle.plan.proofs.ranges.is_step.Tie as tie
 
 pub is-step-spec : {M : Type 1} → statement M
 unfolding isStep
-is-step-spec = tie.close (tie.spec (λ c. search picks) (λ c. search picks) (λ c. search needs) (λ c. search picks))
+is-step-spec =
+    tie.close (tie.spec (λ c. search picks) (λ c. search picks) (λ c κs. search needs) (λ c. search (picks, c .divides-circle .ensures)))

@@ -1,7 +1,5 @@
 use borrow.Author.Needs.{needs}
-use native.Mathlib.Omega.{arith}
-use lib.ListN.{length-append}
-use Rattle.words.proofs.Puts.{put-then}
+use Rattle.words.proofs.Puts.{room-first, room-second, put-both}
 use Rattle.profile.specs.Points.{pointWords}
 use Rattle.profile.proofs.points.put_point.Statement.{statement}
 use Rattle.profile.proofs.points.put_point.Tie as tie
@@ -11,8 +9,8 @@ unfolding pointWords
 put-point-spec =
     tie.close
     (tie.spec
-    (λ c κs. let h = simp length-append at (c .before .before .pre) in omega arith)
-    (λ c κs. let h = simp length-append at (c .before .before .before .before .before .before .pre) in omega arith)
-    (λ c κs. let h = simp length-append at (c .before .before .before .before .before .before .before .before .before .before .pre) in omega arith)
+    (λ c κs. search (room-first, room-second, put-both))
+    (λ c κs. search (room-first, room-second, put-both))
+    (λ c κs. search (room-first, room-second, put-both))
     (λ c. search needs)
-    (λ c. let h = simp length-append at (c .before .before .before .before .before .before .before .before .before .before .before .before .before .pre) in put-then (omega arith) (put-then (omega arith) (c .before .before .before .before .before .before .before .before .before .before .put-if .ensures) (c .before .before .before .before .before .before .put-if2 .ensures)) (c .before .before .put-if3 .ensures)))
+    (λ c. search (room-first, room-second, put-both)))

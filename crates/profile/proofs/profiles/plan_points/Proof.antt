@@ -3,6 +3,7 @@ use Prim.Native.Nat.{_+_, _-_, _*_, _≤_}
 use native.Mathlib.Omega.{arith}
 use borrow.Author.Needs.{needs}
 use lib.ListN.{drop}
+use Rattle.units.specs.Directions.{circle}
 use Rattle.words.specs.Lists.{total}
 use Rattle.words.proofs.Arrays.{long}
 use Rattle.plan.specs.Sectors.{activeOf}
@@ -15,7 +16,7 @@ use Rattle.profile.proofs.profiles.plan_points.Tie as tie
 abbrev Inv-loop : tie.InvT-loop
 Inv-loop plan step count sum₀ k₀ sum k =
     (count ≤ 8)
-    × (sum ≤ k * 5760)
+    × (sum ≤ k * circle)
     × (sum + total (λ a. a .points) (drop k (arcs (step .0) (activeOf plan))) ≡ total (λ a. a .points) (arcs (step .0) (activeOf plan)))
 
 pub plan-points-spec : {M : Type 1} → statement M

@@ -1,7 +1,5 @@
 use borrow.Author.Needs.{needs}
-use native.Mathlib.Omega.{arith}
-use lib.ListN.{length-append}
-use Rattle.words.proofs.Puts.{put-then, put-first}
+use Rattle.words.proofs.Puts.{room-of-1, room-of-2, room-of-3, room-of-4, room-of-5, put-5}
 use Rattle.profile.proofs.sectors.put_opening.Statement.{statement}
 use Rattle.profile.proofs.sectors.put_opening.Tie as tie
 
@@ -9,10 +7,10 @@ pub put-opening-spec : {M : Type 1} → statement M
 put-opening-spec =
     tie.close
     (tie.spec
-    (λ c κs. let h = simp length-append at (c .before .before .pre) in omega arith)
-    (λ c κs. let h = simp length-append at (c .before .before .before .before .before .before .pre) in omega arith)
-    (λ c κs. let h = simp length-append at (c .before .before .before .before .before .before .before .before .before .before .pre) in omega arith)
-    (λ c κs. let h = simp length-append at (c .before .before .before .before .before .before .before .before .before .before .before .before .before .before .pre) in omega arith)
-    (λ c κs. let h = simp length-append at (c .before .before .before .before .before .before .before .before .before .before .before .before .before .before .before .before .before .before .pre) in omega arith)
+    (λ c κs. search room-of-1)
+    (λ c κs. search room-of-2)
+    (λ c κs. search room-of-3)
+    (λ c κs. search room-of-4)
+    (λ c κs. search room-of-5)
     (λ c. search needs)
-    (λ c. let h = simp length-append at (c .before .before .before .before .before .before .before .before .before .before .before .before .before .before .before .before .before .before .before .before .before .pre) in put-first (put-then (omega arith) (put-then (omega arith) (put-then (omega arith) (put-then (omega arith) (c .before .before .before .before .before .before .before .before .before .before .before .before .before .before .before .before .before .before .put-if .ensures) (c .before .before .before .before .before .before .before .before .before .before .before .before .before .before .put-if2 .ensures)) (c .before .before .before .before .before .before .before .before .before .before .put-if3 .ensures)) (c .before .before .before .before .before .before .put-if4 .ensures)) (c .before .before .put-if5 .ensures))))
+    (λ c. search put-5))

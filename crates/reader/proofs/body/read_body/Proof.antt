@@ -1,11 +1,10 @@
 -- `read_body`: the words taken are a walk of the body, and each way out is by its law.
-use Prim.Native.Nat.{_%_}
 use mathlib.Core.Path.{_∙_}
-use lib.ListN.{getD}
+use mir.Facts.{fits-widen}
 use denote.Ref.{now}
 use borrow.Author.Needs.{needs}
 use Rattle.words.proofs.Takes.{took-within}
-use Rattle.reader.specs.Readings.{bodyOf}
+use Rattle.reader.specs.Readings.{maskIn, countIn, bodyOf}
 use Rattle.reader.proofs.Heads.{head-long, head-has, head-few, head-behind}
 use Rattle.reader.proofs.Bodies.{BodyWalk, end-short, end-over, end-exact}
 use Rattle.reader.proofs.body.read_body.Statement.{statement}
@@ -16,7 +15,7 @@ abbrev start : tie.After-take-word5 → tie.Start
 start t = t .before .before .before .before .before .before .before .before .before
 
 -- the words taken, with what each call says
-abbrev walk : (t : tie.After-take-word5) → let ws = now (start t .args .words) in BodyWalk (getD ws 1 0) (getD ws 2 0 % 256) ws
+abbrev walk : (t : tie.After-take-word5) → let ws = now (start t .args .words) in BodyWalk (maskIn ws) (countIn ws) ws
 walk t =
     record {
       sent = _;
@@ -56,6 +55,7 @@ read-body-spec =
     tie.close
     (tie.spec
     (λ c. search (needs, head-has))
+    (λ c. fits-widen tt (c .shared-slice-known2 .given 1))
     (λ c. search (needs, head-has))
     (λ c. search needs)
     (λ c κs. search needs)

@@ -1,7 +1,5 @@
 -- `read_sector`: the words taken are a walk of the sector, and each way out is by its law.
-use native.Mathlib.Nat.{mul-le-mul, le-of-lt}
 use native.Mathlib.Omega.{arith}
-use mir.Facts.{fits-le, fits-lit}
 use denote.Ref.{now}
 use borrow.Author.Needs.{needs}
 use Rattle.reader.proofs.SectorPlaces.{Walk, sector-cut, sector-whole, start-within}
@@ -10,12 +8,12 @@ use Rattle.reader.proofs.sector.read_sector.Tie as tie
 
 -- the start of the function, from the place behind the last word taken
 abbrev start : tie.After-take-word7 → tie.Start
-start t = t .before .before .before .before .before .before .before .before .before .before .before
+start t = t .before .before .before .before .before .before .before .before .before .before .before .before
 
 -- the words taken, with what each call says
 abbrev walk : (t : tie.After-take-word7) → Walk (start t .args .mask) (now (start t .args .rest))
 walk t =
-    let front = t .before .before .before .before .before in
+    let front = t .before .before .before .before .before .before in
     record {
       number = _;
       step = _;
@@ -24,6 +22,7 @@ walk t =
       startdir = _;
       count = _;
       width = _;
+      len = _;
       behind = _;
       tend = _;
       enddir = _;
@@ -32,8 +31,9 @@ walk t =
       is-points = front .before .before .take-word3 .ensures;
       is-tstart = front .before .take-word4 .ensures;
       is-startdir = front .take-word5 .ensures;
-      is-count = t .before .before .before .before .number-of .ensures .0;
-      is-width = t .before .before .before .point-width .ensures .0;
+      is-count = t .before .before .before .before .before .number-of .ensures;
+      is-width = t .before .before .before .before .point-width .ensures;
+      is-len = t .before .before .before .product .ensures;
       is-behind = t .before .before .skip .ensures;
       is-tend = t .before .take-word6 .ensures;
       is-enddir = t .take-word7 .ensures;
@@ -53,8 +53,8 @@ read-sector-spec =
     (λ c κs. search needs)
     (λ c κs. search needs)
     (λ c κs. search needs)
+    (λ c κs. search needs)
     (λ c. search needs)
-    (λ c. fits-le (mul-le-mul (le-of-lt (c .before .number-of .ensures .1)) (c .point-width .ensures .1)) (fits-lit tt))
     (λ c κs. search needs)
     (λ c κs. search needs)
     (λ c κs. search needs)

@@ -1,7 +1,8 @@
 -- `stretch`: a sector that was read has its points within the words.
+use mathlib.Core.Path.{refl}
 use native.Mathlib.Omega.{arith}
 use borrow.Author.Needs.{needs}
-use Rattle.reader.proofs.PointPlaces.{below-eight, ends, stretch-is, no-stretch}
+use Rattle.reader.proofs.PointPlaces.{below-eight, ends, points-lent, nothing-lent}
 use Rattle.reader.proofs.stretches.stretch.Statement.{statement}
 use Rattle.reader.proofs.stretches.stretch.Tie as tie
 
@@ -20,5 +21,5 @@ stretch-spec =
     (λ c. search needs)
     (λ c. search needs)
     (λ c. search needs)
-    (λ c. search stretch-is)
-    (λ c. search no-stretch))
+    (λ c. points-lent _ _ _ (c .before .before .before .before .read .ensures) _ (c .before .before .before .if1 .taken) refl refl)
+    (λ c. nothing-lent _ _ _ (c .before .before .read .ensures) _ (c .before .if1 .left) refl refl))

@@ -12,5 +12,4 @@ request-refusal-spec =
     (λ c. search no-words)
     (λ c. search needs)
     (λ c κs. search needs)
-    (λ c κs. search needs)
     (λ c. search by-service))

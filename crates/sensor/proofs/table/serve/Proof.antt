@@ -34,6 +34,7 @@ serve-spec =
     (λ c. search needs)
     (λ c κs. search needs)
     (λ c. search needs)
+    (λ c κs. search needs)
     (λ c. search service-is)
     (λ c. search service-is)
     (λ c. search service-is)
@@ -47,4 +48,4 @@ serve-spec =
     (λ c. search service-is)
     (λ c. search service-is)
     (λ c. search service-is)
-    (λ c. search (service-is, needs)))
+    (λ c. search service-is))

@@ -6,4 +6,10 @@ use Rattle.services.proofs.configuration.get_function.Tie as tie
 
 pub get-function-spec : {M : Type 1} → statement M
 get-function-spec =
-    tie.close (tie.spec (λ c κs. search needs) (λ c. search picks) (λ c κs. search needs) (λ c κs. search needs) (λ c. search entry-got))
+    tie.close
+    (tie.spec
+    (λ c κs. search needs)
+    (λ c. search picks)
+    (λ c κs. search needs)
+    (λ c κs. search needs)
+    (λ c. search entry-got))

@@ -9,7 +9,7 @@ set-config-spec =
     (tie.spec
     (λ c κs. search needs)
     (λ c κs. search needs)
-    (λ c κs. search needs)
     (λ c. search config-stays)
+    (λ c κs. search needs)
     (λ c κs. search needs)
     (λ c. search config-set))

@@ -1,6 +1,5 @@
 use borrow.Author.Needs.{needs}
-use Rattle.words.proofs.Tests.{picks}
-use Rattle.services.proofs.Exits.{job-starts}
+use Rattle.services.proofs.Exits.{job-stays, job-starts}
 use Rattle.services.proofs.measurement.get_profile.Statement.{statement}
 use Rattle.services.proofs.measurement.get_profile.Tie as tie
 
@@ -9,7 +8,7 @@ get-profile-spec =
     tie.close
     (tie.spec
     (λ c κs. search needs)
-    (λ c. search picks)
+    (λ c. search job-stays)
     (λ c κs. search needs)
     (λ c κs. search needs)
     (λ c κs. search needs)

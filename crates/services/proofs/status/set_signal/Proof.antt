@@ -1,5 +1,5 @@
 use borrow.Author.Needs.{needs}
-use Rattle.services.proofs.Exits.{given}
+use Rattle.services.proofs.Exits.{answers-with}
 use Rattle.services.proofs.status.set_signal.Statement.{statement}
 use Rattle.services.proofs.status.set_signal.Tie as tie
 
@@ -15,4 +15,4 @@ set-signal-spec =
     (λ c κs. search needs)
     (λ c. search needs)
     (λ c κs. search needs)
-    (λ c. search given))
+    (λ c. search answers-with))

@@ -1,5 +1,5 @@
 use borrow.Author.Needs.{needs}
-use Rattle.services.proofs.Exits.{measure-fails, measure-starts}
+use Rattle.services.proofs.Exits.{measure-tried}
 use Rattle.services.proofs.working.trans_measure.Statement.{statement}
 use Rattle.services.proofs.working.trans_measure.Tie as tie
 
@@ -10,7 +10,4 @@ trans-measure-spec =
     (λ c κs. search needs)
     (λ c κs. search needs)
     (λ c κs. search needs)
-    (λ c. search measure-fails)
-    (λ c κs. search needs)
-    (λ c κs. search needs)
-    (λ c. search measure-starts))
+    (λ c. search measure-tried))

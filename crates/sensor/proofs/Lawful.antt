@@ -1,0 +1,74 @@
+-- The table's services, one by one: each is found by its code, and is fine. Every theorem of the table rests on this alone.
+use mathlib.Core.Path.{_≡_, refl, subst}
+use mathlib.Core.List.{List, []}
+use Prim.Native.Nat.{ℕ, _≤_}
+use lib.Dec.{T, ltb, eqb}
+use lib.ListN.{getD}
+use Rattle.words.proofs.Tests.{picked}
+use Rattle.state.specs.declared.State.{State}
+use Rattle.state.specs.declared.Mode.{Mode}
+use Rattle.state.specs.declared.Mode.the-variants.{Idle, Rotate, Measure}
+use Rattle.state.specs.Replies.{Outcome}
+use Rattle.services.specs.Configuration.{configItem}
+use Rattle.services.proofs.Lawful.{Fine, stays}
+use Rattle.services.proofs.Lawful as law
+use Rattle.sensor.specs.declared.Service.{Service}
+use Rattle.sensor.specs.Table.{rowOf, response, serviceOf, allowed, silent}
+use Rattle.sensor.specs.Requests.{outcome}
+
+-- the first word after the code has 16 bits, and the mode is listed
+abbrev pub Asked : Service → State → ℕ → Type 0
+Asked v s a = (a ≤ 65535) × T (allowed v (s .mode))
+
+-- what holds of a service's outcome, by its row and whichever response code it is told
+abbrev pub FineRow : Service → State → ℕ → ℕ → ℕ → ℕ → ℕ → Outcome → Type 0
+FineRow v s code a b c d o = Fine (silent v a b c d) code (rowOf v .changes) (Asked v s a) s o
+
+pub record Lawful (v : Service) : Type 0 where
+  pub found : serviceOf (rowOf v .code) ≡ v
+  pub fine : (s : State) (code a b c d : ℕ) → FineRow v s code a b c d (rowOf v .does s code a b c d)
+
+-- a mode that is not listed
+unlisted : (v : Service) (s : State) (a : ℕ) (m : Mode) → (T (allowed v m) → ⊥) → Asked v s a → s .mode ≡ m → ⊥
+unlisted v s a m n q e = n (subst (λ (m : Mode). T (allowed v m)) e (q .1))
+
+only-measure : (m : Mode) → T (allowed Service.GetProfile m) → m ≡ Measure
+only-measure Idle h = absurd h
+only-measure Rotate h = absurd h
+only-measure Measure h = refl
+
+pub lawful : (v : Service) → Lawful v
+unfolding serviceOf
+lawful Service.GetStatus = record { found = refl; fine = λ s r a b c d. stays r s _ refl tt refl }
+lawful Service.GetSignal = record { found = refl; fine = λ s r a b c d. stays r s _ refl tt refl }
+lawful Service.SetSignal = record { found = refl; fine = λ s r a b c d. law.signal-fine s r a }
+lawful Service.SetConfig =
+    record { found = refl; fine = λ s r a b c d. law.config-fine s r (unlisted Service.SetConfig s a Measure (λ h. h)) a b c d }
+lawful Service.GetConfig =
+    record {
+      found = refl;
+      fine = λ s r a b c d. picked (FineRow Service.GetConfig s r a b c d) (eqb a configItem) _ _ (stays r s _ refl tt refl) (stays r s _ refl tt refl);
+    }
+lawful Service.SetFunction =
+    record { found = refl; fine = λ s r a b c d. law.function-fine s r (unlisted Service.SetFunction s a Measure (λ h. h)) a b c d }
+lawful Service.GetFunction =
+    record {
+      found = refl;
+      fine = λ s r a b c d. picked (FineRow Service.GetFunction s r a b c d) (ltb 7 a) _ _ (stays r s _ refl tt refl) (stays r s _ refl tt refl);
+    }
+lawful Service.GetProfile =
+    record { found = refl; fine = λ s r a b c d. law.profile-fine s r a b (λ q. q .0) (λ q. only-measure (s .mode) (q .1)) }
+lawful Service.CancelProfile = record { found = refl; fine = λ s r a b c d. law.cancel-fine s r }
+lawful Service.DoReset = record { found = refl; fine = λ s r a b c d. law.reset-fine s r a }
+lawful Service.TransIdle = record { found = refl; fine = λ s r a b c d. law.idle-fine s r }
+lawful Service.TransRotate = record { found = refl; fine = λ s r a b c d. law.rotate-fine s r a }
+lawful Service.TransMeasure =
+    record { found = refl; fine = λ s r a b c d. law.measure-fine s r (unlisted Service.TransMeasure s a Idle (λ h. h)) }
+lawful Service.Unknown = record { found = refl; fine = λ s r a b c d. stays r s [] refl tt refl }
+
+-- the same of a request's outcome
+pub outcome-fine : (s : State) (ws : List ℕ)
+    → (let v = serviceOf (getD ws 0 0) in
+    FineRow v s (response (rowOf v .code)) (getD ws 1 0) (getD ws 2 0) (getD ws 3 0) (getD ws 4 0) (outcome s ws))
+unfolding outcome
+outcome-fine s ws = lawful (serviceOf (getD ws 0 0)) .fine s _ (getD ws 1 0) (getD ws 2 0) (getD ws 3 0) (getD ws 4 0)

@@ -1,0 +1,7 @@
+-- A number in its unit.
+use Prim.Native.Nat.{ℕ}
+use Rattle.units.specs.declared.Angle.{Angle}
+
+-- so many sixteenths of a degree
+abbrev pub angle : ℕ → Angle
+angle n = record { 0 = n }
