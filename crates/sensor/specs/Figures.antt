@@ -10,15 +10,35 @@ use Rattle.sensor.specs.Requests.{requestOf}
 -- requests one after another, each into a buffer that every answer fits: the refusals, and the words behind each
 unfoldable pub dialogue : State → List (List ℕ) → List ℕ
 dialogue s [] = []
-dialogue s (ws ∷ rest) = (requestOf s ws longest .reply .refusal ∷ requestOf s ws longest .written) ++ dialogue (requestOf s ws longest .reply .state) rest
+dialogue s (ws ∷ rest) =
+    (requestOf s ws longest .reply .refusal ∷ requestOf s ws longest .written)
+    ++ dialogue (requestOf s ws longest .reply .state) rest
+
+-- SET_CONFIG with id 1, and GET_CONFIG
+abbrev configured : ℕ → ℕ → List ℕ
+configured speed step = 0x0201 ∷ 0x0010 ∷ 1 ∷ speed ∷ step ∷ []
+
+abbrev config : List ℕ
+config = 0x0202 ∷ 0x0010 ∷ []
+
+-- SET_FUNCTION without flash
+abbrev sectorTo : ℕ → ℕ → ℕ → List ℕ
+sectorTo number function stop = 0x020A ∷ number ∷ function ∷ stop ∷ 0 ∷ []
+
+-- TRANS_ROTATE and TRANS_MEASURE
+abbrev rotated : ℕ → List ℕ
+rotated speed = 0x0403 ∷ speed ∷ []
+
+abbrev measured : List ℕ
+measured = 0x0404 ∷ []
 
 abbrev pub requestRows : List Row
 requestRows =
-    -- "angle steps: 7 and 72 give FFFFh in SET_CONFIG [..]; 64 and 1 are taken"
+    -- steps 7 and 72 are no steps and change nothing; 64 and 1 are steps
     record {
       value =
           dialogue freshState
-          ((0x0201 ∷ 0x0010 ∷ 1 ∷ 10 ∷ 7 ∷ []) ∷ (0x0201 ∷ 0x0010 ∷ 1 ∷ 10 ∷ 72 ∷ []) ∷ (0x0202 ∷ 0x0010 ∷ []) ∷ (0x0201 ∷ 0x0010 ∷ 1 ∷ 10 ∷ 64 ∷ []) ∷ (0x0201 ∷ 0x0010 ∷ 1 ∷ 10 ∷ 1 ∷ []) ∷ (0x0202 ∷ 0x0010 ∷ []) ∷ []);
+          (configured 10 7 ∷ configured 10 72 ∷ config ∷ configured 10 64 ∷ configured 10 1 ∷ config ∷ []);
       figure =
           0 ∷ 0x8201 ∷ 0xFFFF
           ∷ 0 ∷ 0x8201 ∷ 0xFFFF
@@ -27,18 +47,16 @@ requestRows =
           ∷ 0 ∷ 0x8201 ∷ 0x0010
           ∷ 0 ∷ 0x8202 ∷ 0x0010 ∷ 1 ∷ 10 ∷ 1 ∷ [];
     }
-    -- "stop 5760 becomes 0; 5761, 1; 65535, 2175"
+    -- stops of a revolution and more are turned back: 5760, 5761 and 65535
     ∷ record {
-      value = dialogue freshState ((0x020A ∷ 0 ∷ 3 ∷ 5760 ∷ 0 ∷ []) ∷ (0x020A ∷ 0 ∷ 3 ∷ 5761 ∷ 0 ∷ []) ∷ (0x020A ∷ 0 ∷ 3 ∷ 65535 ∷ 0 ∷ []) ∷ []);
+      value = dialogue freshState (sectorTo 0 3 5760 ∷ sectorTo 0 3 5761 ∷ sectorTo 0 3 65535 ∷ []);
       figure = 0 ∷ 0x820A ∷ 0 ∷ 3 ∷ 0 ∷ 0 ∷ 0x820A ∷ 0 ∷ 3 ∷ 1 ∷ 0 ∷ 0x820A ∷ 0 ∷ 3 ∷ 2175 ∷ [];
     }
-    -- "SET_SIGNAL FFFFh on port 0 answers 00F3h"
+    -- SET_SIGNAL with every bit set, from port 0: bits 2 and 3 stay
     ∷ record { value = dialogue freshState ((0x0105 ∷ 0xFFFF ∷ []) ∷ []); figure = 0 ∷ 0x8105 ∷ 0x00F3 ∷ [] }
-    -- "1 with a valid plan gives error 1": the fresh plan at 5 Hz and at 20 Hz
+    -- step 1 is too fine at any speed: the fresh plan at 5 Hz and at 20 Hz, error 1
     ∷ record {
-      value =
-          dialogue freshState
-          ((0x0201 ∷ 0x0010 ∷ 1 ∷ 10 ∷ 1 ∷ []) ∷ (0x0403 ∷ 5 ∷ []) ∷ (0x0404 ∷ []) ∷ (0x0403 ∷ 20 ∷ []) ∷ (0x0404 ∷ []) ∷ []);
+      value = dialogue freshState (configured 10 1 ∷ rotated 5 ∷ measured ∷ rotated 20 ∷ measured ∷ []);
       figure =
           0 ∷ 0x8201 ∷ 0x0010
           ∷ 0 ∷ 0x8403 ∷ 0 ∷ 2
@@ -46,11 +64,11 @@ requestRows =
           ∷ 0 ∷ 0x8403 ∷ 0 ∷ 2
           ∷ 0 ∷ 0x8404 ∷ 0 ∷ 2 ∷ 1 ∷ [];
     }
-    -- "step 4, sectors (1, 1436), (3, 3360) [..] that plan at 11 Hz: error 1", and at 10 Hz none
+    -- the plan of two sectors at step 4: error 1 at 11 Hz, none at 10 Hz
     ∷ record {
       value =
           dialogue freshState
-          ((0x0201 ∷ 0x0010 ∷ 1 ∷ 10 ∷ 4 ∷ []) ∷ (0x020A ∷ 0 ∷ 1 ∷ 1436 ∷ 0 ∷ []) ∷ (0x020A ∷ 1 ∷ 3 ∷ 3360 ∷ 0 ∷ []) ∷ (0x0403 ∷ 11 ∷ []) ∷ (0x0404 ∷ []) ∷ (0x0403 ∷ 10 ∷ []) ∷ (0x0404 ∷ []) ∷ []);
+          (configured 10 4 ∷ sectorTo 0 1 1436 ∷ sectorTo 1 3 3360 ∷ rotated 11 ∷ measured ∷ rotated 10 ∷ measured ∷ []);
       figure =
           0 ∷ 0x8201 ∷ 0x0010
           ∷ 0 ∷ 0x820A ∷ 0 ∷ 1 ∷ 1436
@@ -60,21 +78,19 @@ requestRows =
           ∷ 0 ∷ 0x8403 ∷ 0 ∷ 2
           ∷ 0 ∷ 0x8404 ∷ 0 ∷ 3 ∷ 0 ∷ [];
     }
-    -- "Step 2, one sector of function 3, stop 5758, 5 Hz: error 2"
+    -- a whole revolution measured at step 2 and 5 Hz: error 2
     ∷ record {
-      value =
-          dialogue freshState
-          ((0x0201 ∷ 0x0010 ∷ 1 ∷ 5 ∷ 2 ∷ []) ∷ (0x020A ∷ 0 ∷ 3 ∷ 5758 ∷ 0 ∷ []) ∷ (0x0403 ∷ 5 ∷ []) ∷ (0x0404 ∷ []) ∷ []);
+      value = dialogue freshState (configured 5 2 ∷ sectorTo 0 3 5758 ∷ rotated 5 ∷ measured ∷ []);
       figure = 0 ∷ 0x8201 ∷ 0x0010 ∷ 0 ∷ 0x820A ∷ 0 ∷ 3 ∷ 5758 ∷ 0 ∷ 0x8403 ∷ 0 ∷ 2 ∷ 0 ∷ 0x8404 ∷ 0 ∷ 2 ∷ 2 ∷ [];
     }
-    -- "step 10 with stop 5752: error 4"
+    -- stop 5752, the fresh one, at step 10: error 4
     ∷ record {
-      value = dialogue freshState ((0x0201 ∷ 0x0010 ∷ 1 ∷ 10 ∷ 10 ∷ []) ∷ (0x0403 ∷ 0 ∷ []) ∷ (0x0404 ∷ []) ∷ []);
+      value = dialogue freshState (configured 10 10 ∷ rotated 0 ∷ measured ∷ []);
       figure = 0 ∷ 0x8201 ∷ 0x0010 ∷ 0 ∷ 0x8403 ∷ 0 ∷ 2 ∷ 0 ∷ 0x8404 ∷ 0 ∷ 2 ∷ 4 ∷ [];
     }
     -- the program's dialogue
     ∷ record {
-      value = dialogue freshState ((0x0102 ∷ []) ∷ (0x0404 ∷ []) ∷ (0x0403 ∷ 0 ∷ []) ∷ (0x0404 ∷ []) ∷ [] ∷ []);
+      value = dialogue freshState ((0x0102 ∷ []) ∷ measured ∷ rotated 0 ∷ measured ∷ [] ∷ []);
       figure = 0 ∷ 0x8102 ∷ 0 ∷ 1 ∷ 5 ∷ 0 ∷ 0x8403 ∷ 0 ∷ 2 ∷ 0 ∷ 0x8404 ∷ 0 ∷ 3 ∷ 0 ∷ 2 ∷ [];
     }
     ∷ []

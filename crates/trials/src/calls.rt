@@ -94,10 +94,10 @@ fn flat_profile(case: &[u16], out: &mut [u16]) -> Said {
     let mut distance_space = [0u16; 8192];
     let mut echo_space = [0u16; 8192];
     let mut space = [0u16; 8192];
-    let step = word_at(case, 17);
+    let step = Angle(word_at(case, 17));
     let running = word_at(case, 18);
     let mask = word_at(case, 19);
-    let start = word_at(case, 20);
+    let start = Time(word_at(case, 20));
     let distances = list_of(rest(case, 21), &mut distance_space);
     let echoes = list_of(rest(case, 24), &mut echo_space);
     let buffer = list_of(rest(case, 27), &mut space);

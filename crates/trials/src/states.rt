@@ -47,7 +47,7 @@ pub(crate) fn state_of(words: &[u16]) -> State {
     );
     let driven = state::with_drive(planned, mode, word_at(words, 36), job);
     let port = (word_at(words, 37) % 256) as u8;
-    state::with_port(driven, port, word_at(words, 38))
+    state::with_counter(state::with_port(driven, port), word_at(words, 38))
 }
 
 // A plan's 16 words.

@@ -20,6 +20,10 @@ pub and-both : (a b : Bool) → T a → T b → T (a && b)
 and-both true b s t = t
 and-both false b s t = s
 
+-- two tests that are two others, joined
+pub both-are : (a b x y : Bool) → a ≡ x → b ≡ y → (a && b) ≡ (x && y)
+both-are a b x y e f = rw (e, f)
+
 -- a test that holds is true, and the other way round
 pub is-true : {b : Bool} → T b → b ≡ true
 is-true {b} t = go b t

@@ -6,15 +6,21 @@ use std::time::Instant;
 
 type Writer = fn(&[u16], u16, u16, u16, u16, &[u16], &[u16], &mut [u16]) -> usize;
 
+// A direction and a time as the Rattle source has them: a struct of one number each.
+#[repr(C)]
+struct Angle(u16);
+#[repr(C)]
+struct Time(u16);
+
 // Nothing checks this declaration against the Rattle source: a slice passes as a pointer and then a length.
 extern "C" {
     fn slackjib_profile(
         plan: *const u16,
         plan_length: usize,
-        step: u16,
+        step: Angle,
         running: u16,
         mask: u16,
-        start: u16,
+        start: Time,
         distances: *const u16,
         distances_length: usize,
         echoes: *const u16,
@@ -31,10 +37,10 @@ fn proved(plan: &[u16], step: u16, running: u16, mask: u16, start: u16, distance
         slackjib_profile(
             plan.as_ptr(),
             plan.len(),
-            step,
+            Angle(step),
             running,
             mask,
-            start,
+            Time(start),
             distances.as_ptr(),
             distances.len(),
             echoes.as_ptr(),
