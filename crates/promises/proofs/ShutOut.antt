@@ -58,7 +58,9 @@ module _ {In : Type 0} (result : State → In → ℕ → Result) (f : Call In) 
       → view (found (result s i (length d)) d) ≡ view (found (result t j (length d)) d)
   agree view s t i j d e = ap view (sym (finds s i d)) ∙ e ∙ ap view (finds t j d)
 
-shut-out : {In : Type 0} (result : State → In → ℕ → Result) (s : State) (i j : In) (d : List ℕ) (k : ℕ) → Witness result s i j d k → ShutOut result
+shut-out : {In : Type 0} (result : State → In → ℕ → Result) (s : State) (i j : In) (d : List ℕ) (k : ℕ)
+    → Witness result s i j d k
+    → ShutOut result
 shut-out result s i j d k w =
     record {
       refuses-all = λ f h all. all s i d (ap (λ (r : Reply). r .refusal) (h s i d .reply) ∙ w .served);
@@ -88,7 +90,8 @@ abbrev lateStart : Scan
 lateStart = record { start = 7; distances = replicate 90 0; echoes = replicate 90 0 }
 
 revolutions : ShutOut revolutionOf
-unfolding over revolutionOf delivered revolutionRefusal revolved inRange configOk isStep entryInRange planInRange litShots measureError maskOk pointsOf pointWords inTurn
+unfolding over revolutionOf delivered revolutionRefusal revolved inRange configOk isStep entryInRange
+    planInRange litShots measureError maskOk pointsOf pointWords inTurn
 revolutions =
     shut-out revolutionOf (measuring (filled (sector 3 5696 ∷ [])) 64 10 0x0040) lateStart (still 90) (replicate 5 0) 3
     (record {
@@ -105,7 +108,8 @@ abbrev twoSectors : ℕ → Plan
 twoSectors second = filled (sector 1 1408 ∷ sector second 5696 ∷ [])
 
 only-the-first-sector : (f : Call Scan) → Answering revolutionOf f → OnlyTheFirstSector f → ⊥
-unfolding over revolutionOf delivered revolutionRefusal revolved inRange configOk isStep entryInRange planInRange litShots measureError maskOk pointsOf pointWords inTurn
+unfolding over revolutionOf delivered revolutionRefusal revolved inRange configOk isStep entryInRange
+    planInRange litShots measureError maskOk pointsOf pointWords inTurn
 only-the-first-sector f h same =
     let s = measuring freshPlan 64 10 0x0020 in
     let d : List ℕ = replicate 5 0 in
@@ -113,16 +117,20 @@ only-the-first-sector f h same =
     (ap (λ (l : List ℕ). getD l 4 0) (same s (twoSectors 3) (twoSectors 1) (still 90) d refl refl)) in
     omega (arith, e)
 
--- a profile that carries its number sent, and no word at all
+-- a profile that carries its number sent
+abbrev justTheNumber : List ℕ
+justTheNumber = 0x8301 ∷ 1 ∷ 0x0101 ∷ 1 ∷ []
+
+-- that profile, and no word at all
 
 reader-refuses-all : (f : List ℕ → Reading) → ((ws : List ℕ) → ReadSays ws (f ws)) → ((ws : List ℕ) → f ws .refusal ≡ 0 → ⊥) → ⊥
 unfolding maskOk headRefusal bodyOf readOf
-reader-refuses-all f h all = all (0x8301 ∷ 1 ∷ 0x0101 ∷ 1 ∷ []) (ap (λ (r : Reading). r .refusal) (h (0x8301 ∷ 1 ∷ 0x0101 ∷ 1 ∷ [])))
+reader-refuses-all f h all = all justTheNumber (ap (λ (r : Reading). r .refusal) (h justTheNumber))
 
 one-reading-for-all : (f : List ℕ → Reading) → ((ws : List ℕ) → ReadSays ws (f ws)) → ((vs ws : List ℕ) → f vs ≡ f ws) → ⊥
 unfolding maskOk headRefusal bodyOf readOf
 one-reading-for-all f h same =
-    omega (arith, ap (λ (r : Reading). r .refusal) (sym (h []) ∙ same [] (0x8301 ∷ 1 ∷ 0x0101 ∷ 1 ∷ []) ∙ h (0x8301 ∷ 1 ∷ 0x0101 ∷ 1 ∷ [])))
+    omega (arith, ap (λ (r : Reading). r .refusal) (sym (h []) ∙ same [] justTheNumber ∙ h justTheNumber))
 
 -- two neighbours with one function, whose normal plan has a sector less
 abbrev joinable : Plan

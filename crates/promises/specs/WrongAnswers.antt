@@ -4,11 +4,14 @@ use mathlib.Core.Path.{_≡_}
 use mathlib.Core.Bool.{true}
 use mathlib.Core.List.{List, [], _∷_}
 use Prim.Native.Nat.{ℕ}
-use lib.ListN.{length}
+use lib.ListN.{length, getD}
 use Rattle.words.specs.Plain.{ProductSays, WordAtSays}
 use Rattle.plan.specs.declared.Plan.{Plan}
+use Rattle.plan.specs.declared.Sector.{Sector}
 use Rattle.plan.specs.Sectors.{sector, entryAt, withEntry, filled}
 use Rattle.plan.specs.Validity.{multiples}
+use Rattle.normal.specs.declared.Normalised.{Normalised}
+use Rattle.normal.specs.NormalForm.{NormalPlanSays}
 use Rattle.layout.specs.Masks.{pointWidth}
 use Rattle.state.specs.declared.State.{State}
 use Rattle.state.specs.declared.Mode.the-variants.{Rotate, Measure}
@@ -16,6 +19,9 @@ use Rattle.state.specs.Modes.{modeNumber}
 use Rattle.state.specs.declared.Job.the-variants.{Absent}
 use Rattle.state.specs.Fields.{withPlans, withDrive}
 use Rattle.state.specs.Fresh.{freshState, FreshSays}
+use Rattle.services.specs.declared.Served.{Served}
+use Rattle.services.specs.Answers.{Gives, unpacked}
+use Rattle.services.specs.Configuration.{setFunction}
 use Rattle.profile.specs.Figures.{still}
 use Rattle.flat.specs.Sent.{ProfileSays}
 use Rattle.reader.specs.Demands.{turnedRound}
@@ -31,6 +37,13 @@ twoWords = 1 ∷ 2 ∷ []
 abbrev pub twoEntries : Plan
 twoEntries = filled (sector 3 1000 ∷ sector 1 3000 ∷ [])
 
+-- two sectors of one function with another between, and two of one function side by side
+abbrev pub lastLikeFirst : Plan
+lastLikeFirst = filled (sector 3 1000 ∷ sector 1 3000 ∷ sector 3 5000 ∷ [])
+
+abbrev pub neighbours : Plan
+neighbours = filled (sector 3 1000 ∷ sector 3 3000 ∷ sector 1 5000 ∷ [])
+
 pub record WrongAnswers : Type 0 where
   -- `product`: cut to 16 bits
   pub product-cut : ProductSays 256 256 0 → ⊥
@@ -44,6 +57,18 @@ pub record WrongAnswers : Type 0 where
   pub first-entry-set : withEntry twoEntries 0 (sector 4 2000) ≡ withEntry twoEntries 1 (sector 4 2000) → ⊥
   -- `whole_steps`: every stop taken
   pub every-stop : true ≡ multiples 8 (sector 3 4 ∷ []) → ⊥
+  -- `normal_plan`, each at step 8: the last sector joined to the first; of two joined ones the earlier stop
+  pub last-joined :
+      (r : Normalised) → NormalPlanSays lastLikeFirst 8 r → r .plan ≡ filled (sector 1 3000 ∷ sector 3 1000 ∷ []) → ⊥
+  pub earlier-stop :
+      (r : Normalised) → NormalPlanSays neighbours 8 r → r .plan ≡ filled (sector 3 1000 ∷ sector 1 5000 ∷ []) → ⊥
+  -- SET_FUNCTION, stop 1004 at step 8, which is no multiple: answered by a word for no; the sector put out of use
+  pub multiples-tested :
+      (r : Served) → Gives r (setFunction freshState 0x820A 0 3 1004 0) → getD (unpacked r .words) 3 0 ≡ 0xFFFF → ⊥
+  pub sector-out-of-use :
+      (r : Served) → Gives r (setFunction freshState 0x820A 0 3 1004 0)
+      → entryAt (r .state .working) 0 .function ≡ 0
+      → ⊥
   -- `point_width`: three words whatever the mask is
   pub three-words : 3 ≡ pointWidth 0x0100 → ⊥
   -- `mode_number`: IDLE's for every mode
