@@ -15,7 +15,7 @@ use Rattle.services.specs.Answers.{answer}
 use Rattle.services.specs.Status.{getStatus, getSignal, setSignal}
 use Rattle.services.specs.Configuration.{setConfig, getConfig, setFunction, getFunction}
 use Rattle.services.specs.Measurement.{startsJob, getProfile, cancelProfile}
-use Rattle.services.specs.Working.{doReset, transIdle, transRotate, transMeasure}
+use Rattle.services.specs.Working.{driveParts, resetParts, doReset, transIdle, transRotate, transMeasure}
 use Rattle.sensor.specs.declared.Service.{Service}
 
 -- a row of the table: the code, how many words come in, the code's included, whether IDLE, ROTATE and MEASURE are listed, the parts of
@@ -33,13 +33,6 @@ abbrev entry : ℕ → ℕ → Bool → Bool → Bool → List Part → (State �
 entry code wordsIn idle rotate measure changes does =
     record { code = code; wordsIn = wordsIn; idle = idle; rotate = rotate; measure = measure; changes = changes; does = does }
 
--- what TRANS_IDLE and TRANS_ROTATE may change, and DO_RESET
-abbrev drive : List Part
-drive = part.mode ∷ part.running ∷ part.job ∷ []
-
-abbrev allReset : List Part
-allReset = part.working ∷ part.mode ∷ part.running ∷ part.port ∷ part.counter ∷ part.job ∷ []
-
 -- the rows
 abbrev pub rowOf : Service → Entry
 rowOf Service.GetStatus = entry 0x0102 1 true true true [] (λ s r a b c d. getStatus s r)
@@ -51,9 +44,9 @@ rowOf Service.SetFunction = entry 0x020A 5 true true false (part.working ∷ par
 rowOf Service.GetFunction = entry 0x020B 2 true true true [] (λ s r a b c d. getFunction s r a)
 rowOf Service.GetProfile = entry 0x0301 3 false false true (part.job ∷ []) (λ s r a b c d. getProfile s r a b)
 rowOf Service.CancelProfile = entry 0x0302 1 false false true (part.job ∷ []) (λ s r a b c d. cancelProfile s r)
-rowOf Service.DoReset = entry 0x0401 2 true true true allReset (λ s r a b c d. doReset s r a)
-rowOf Service.TransIdle = entry 0x0402 1 true true true drive (λ s r a b c d. transIdle s r)
-rowOf Service.TransRotate = entry 0x0403 2 true true true drive (λ s r a b c d. transRotate s r a)
+rowOf Service.DoReset = entry 0x0401 2 true true true resetParts (λ s r a b c d. doReset s r a)
+rowOf Service.TransIdle = entry 0x0402 1 true true true driveParts (λ s r a b c d. transIdle s r)
+rowOf Service.TransRotate = entry 0x0403 2 true true true driveParts (λ s r a b c d. transRotate s r a)
 rowOf Service.TransMeasure = entry 0x0404 1 false true true (part.mode ∷ []) (λ s r a b c d. transMeasure s r)
 rowOf Service.Unknown = entry 0 0 false false false [] (λ s r a b c d. answer s [])
 

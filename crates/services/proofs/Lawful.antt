@@ -31,7 +31,7 @@ use Rattle.services.specs.Answers.{answer, answerStatus, senstat, longes
 use Rattle.services.specs.Configuration.{configItem, configTaken, setConfig, sectorSet, functionSet, stopSet, workingSet, setFunction}
 use Rattle.services.specs.Measurement.{newJob, startsJob, getProfile, cancelProfile}
 use Rattle.services.specs.Status.{setSignal}
-use Rattle.services.specs.Working.{idleOf, coldOf, stopMeasure, doReset, transIdle, transRotate, measureOf, transMeasure}
+use Rattle.services.specs.Working.{driveParts, resetParts, idleOf, coldOf, stopMeasure, doReset, transIdle, transRotate, measureOf, transMeasure}
 
 -- the response code is the first word, or there is none at all where none is due
 abbrev pub Responds : Bool → ℕ → List ℕ → Type 0
@@ -139,12 +139,6 @@ checked m working step running e h =
 
 -- The services that change the state
 
-abbrev drive : List Part
-drive = part.mode ∷ part.running ∷ part.job ∷ []
-
-abbrev reset : List Part
-reset = part.working ∷ part.mode ∷ part.running ∷ part.port ∷ part.counter ∷ part.job ∷ []
-
 module _ {Asked : Type 0} (s : State) (code : ℕ) where
   pub signal-fine : (word : ℕ) → Fine false code (part.port ∷ []) Asked s (setSignal s code word)
   signal-fine word = sets-port code s _ refl tt _ refl
@@ -208,10 +202,10 @@ module _ {Asked : Type 0} (s : State) (code : ℕ) where
   pub cancel-fine : Fine false code (part.job ∷ []) Asked s (cancelProfile s code)
   cancel-fine = sets-drive code s _ refl tt (s .mode) (s .running) Absent (λ _. refl) (λ _ p. (p .running, p .checks, tt))
 
-  pub reset-fine : (level : ℕ) → Fine false code reset Asked s (doReset s code level)
+  pub reset-fine : (level : ℕ) → Fine false code resetParts Asked s (doReset s code level)
   reset-fine level =
-      chosen (Fine false code reset Asked s) (λ t. answer t words) (ltb level 2) _ _ (λ _. cold)
-      (λ _. chosen (Fine false code reset Asked s) (λ t. answer t words) (eqb level 2) _ _ (λ _. stop (s .mode) refl) (λ _. stays code s words refl tt refl))
+      chosen (Fine false code resetParts Asked s) (λ t. answer t words) (ltb level 2) _ _ (λ _. cold)
+      (λ _. chosen (Fine false code resetParts Asked s) (λ t. answer t words) (eqb level 2) _ _ (λ _. stop (s .mode) refl) (λ _. stays code s words refl tt refl))
     where
       words : List ℕ
       words = code ∷ level ∷ []
@@ -219,27 +213,33 @@ module _ {Asked : Type 0} (s : State) (code : ℕ) where
       idle : Parts s → Parts (idleOf s)
       idle p = drive-set s p Idle 0 Absent tt tt tt
 
-      cold : Fine false code reset Asked s (answer (coldOf s) words)
+      planned : State
+      planned = withPlans (idleOf s) (s .stored) (s .stored)
+
+      plans : Parts s → Parts planned
+      plans p = plans-set (idleOf s) (idle p) (s .stored) (s .stored) (stored-of s p) (stored-of s p) tt
+
+      cold : Fine false code resetParts Asked s (answer (coldOf s) words)
       cold =
           sets code s words refl tt (coldOf s) (λ _. refl) (λ h. (h .1, h .1))
-          (λ _ p. counter-set _ (port-set _ (plans-set _ (idle p) (s .stored) (s .stored) (stored-of s p) (stored-of s p) tt) 0) 0)
+          (λ _ p. counter-set (withPort planned 0) (port-set planned (plans p) 0) 0)
 
-      stop : (m : Mode) → s .mode ≡ m → Fine false code reset Asked s (answer (stopMeasure s m) words)
+      stop : (m : Mode) → s .mode ≡ m → Fine false code resetParts Asked s (answer (stopMeasure s m) words)
       stop Idle e = stays code s words refl tt refl
       stop Rotate e = stays code s words refl tt refl
       stop Measure e = sets-drive code s words refl tt Rotate (s .running) Absent (λ _. refl) (λ _ p. (rw e at (p .running), tt, tt))
 
-  pub idle-fine : Fine false code drive Asked s (transIdle s code)
+  pub idle-fine : Fine false code driveParts Asked s (transIdle s code)
   idle-fine = sets-drive code s _ refl tt Idle 0 Absent (λ _. refl) (λ _ _. (tt, tt, tt))
 
-  pub rotate-fine : (speed : ℕ) → Fine false code drive Asked s (transRotate s code speed)
+  pub rotate-fine : (speed : ℕ) → Fine false code driveParts Asked s (transRotate s code speed)
   rotate-fine speed =
-      chosen (Fine false code drive Asked s) (λ t. answerStatus code t) (eqb speed 0) _ _
+      chosen (Fine false code driveParts Asked s) (λ t. answerStatus code t) (eqb speed 0) _ _
       (λ _. turn (s .speed) (λ p. speed-of (s .id) (s .speed) (s .step .0) (p .config)))
-      (λ _. chosen (Fine false code drive Asked s) (λ t. answerStatus code t) (speedOk speed) _ _ (λ e. turn speed (λ _. holds e))
+      (λ _. chosen (Fine false code driveParts Asked s) (λ t. answerStatus code t) (speedOk speed) _ _ (λ e. turn speed (λ _. holds e))
       (λ _. sets-drive code s _ refl tt Idle 0 Absent (λ _. refl) (λ _ _. (tt, tt, tt))))
     where
-      turn : (r : ℕ) → (Parts s → T (speedOk r)) → Fine false code drive Asked s (answerStatus code (withDrive s Rotate r Absent))
+      turn : (r : ℕ) → (Parts s → T (speedOk r)) → Fine false code driveParts Asked s (answerStatus code (withDrive s Rotate r Absent))
       turn r h = sets-drive code s _ refl tt Rotate r Absent (λ _. refl) (λ _ p. (h p, tt, tt))
 
   -- only the mode: where it fails there was no job to end

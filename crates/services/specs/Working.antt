@@ -1,5 +1,5 @@
 -- Document 01, 'Services': DO_RESET, TRANS_IDLE, TRANS_ROTATE, TRANS_MEASURE. Whatever leaves MEASURE ends the job.
-use mathlib.Core.List.{[], _∷_, _++_}
+use mathlib.Core.List.{List, [], _∷_, _++_}
 use Prim.Native.Nat.{ℕ}
 use lib.Dec.{ltb, eqb}
 use Rattle.words.specs.Choice.{if_then_else_}
@@ -8,10 +8,19 @@ use Rattle.state.specs.declared.State.{State}
 use Rattle.state.specs.declared.Mode.{Mode}
 use Rattle.state.specs.declared.Mode.the-variants.{Idle, Rotate, Measure}
 use Rattle.state.specs.declared.Job.the-variants.{Absent}
+use Rattle.state.specs.Changes.{Part}
+use Rattle.state.specs.Changes as part
 use Rattle.state.specs.Fields.{withPlans, withDrive, withPort, withCounter}
 use Rattle.state.specs.Ranges.{speedOk}
 use Rattle.state.specs.Replies.{Outcome}
 use Rattle.services.specs.Answers.{answer, answerStatus, senstat}
+
+-- what TRANS_IDLE and TRANS_ROTATE may change, and DO_RESET
+abbrev pub driveParts : List Part
+driveParts = part.mode ∷ part.running ∷ part.job ∷ []
+
+abbrev pub resetParts : List Part
+resetParts = part.working ∷ part.mode ∷ part.running ∷ part.port ∷ part.counter ∷ part.job ∷ []
 
 -- IDLE at running speed 0
 abbrev pub idleOf : State → State

@@ -1,4 +1,5 @@
 -- A state in its ranges, taken apart and put together again: one fact for each sentence of 'State and ranges'.
+use mathlib.Core.Bool.{Bool}
 use Prim.Native.Nat.{ℕ}
 use lib.Dec.{T}
 use Rattle.plan.specs.declared.Plan.{Plan}
@@ -10,13 +11,18 @@ use Rattle.state.specs.declared.Job.{Job}
 use Rattle.state.specs.Fields.{withConfig, withPlans, withDrive, withPort, withCounter}
 use Rattle.state.specs.Ranges.{configOk, runningOk, checksOk, jobOk, aloneOk, inRange}
 
-pub record Parts (s : State) : Type 0 where
-  pub config : T (configOk (s .id) (s .speed) (s .step .0))
-  pub working : T (planInRange (s .working))
-  pub running : T (runningOk (s .mode) (s .running))
-  pub checks : T (checksOk (s .mode) (s .working) (s .step .0) (s .running))
-  pub job : T (jobOk (s .mode) (s .job))
-  pub alone : T (aloneOk s)
+pub record Hold (c w r k j a : Bool) : Type 0 where
+  pub config : T c
+  pub working : T w
+  pub running : T r
+  pub checks : T k
+  pub job : T j
+  pub alone : T a
+
+abbrev pub Parts : State → Type 0
+Parts s =
+    Hold (configOk (s .id) (s .speed) (s .step .0)) (planInRange (s .working)) (runningOk (s .mode) (s .running))
+    (checksOk (s .mode) (s .working) (s .step .0) (s .running)) (jobOk (s .mode) (s .job)) (aloneOk s)
 
 pub parts : (s : State) → T (inRange s) → Parts s
 unfolding inRange
@@ -33,6 +39,11 @@ parts s h =
 pub whole : (s : State) → Parts s → T (inRange s)
 unfolding inRange
 whole s p = search (and-both, p .config, p .working, p .running, p .checks, p .job, p .alone) depth 12
+
+-- the same, with fields that stand alone set
+with-alone : {c w r k j a b : Bool} → Hold c w r k j a → T b → Hold c w r k j b
+with-alone p h =
+    record { config = p .config; working = p .working; running = p .running; checks = p .checks; job = p .job; alone = h }
 
 -- The stored plan, and the fields that stand alone where it is another.
 pub stored-of : (s : State) → Parts s → T (planInRange (s .stored))
@@ -59,9 +70,7 @@ module _ (s : State) (p : Parts s) where
   drive-set m r j a b c = record { config = p .config; working = p .working; running = a; checks = b; job = c; alone = p .alone }
 
   pub port-set : (port : ℕ) → Parts (withPort s port)
-  port-set port =
-      record { config = p .config; working = p .working; running = p .running; checks = p .checks; job = p .job; alone = p .alone }
+  port-set port = with-alone p (p .alone)
 
   pub counter-set : (counter : ℕ) → Parts (withCounter s counter)
-  counter-set counter =
-      record { config = p .config; working = p .working; running = p .running; checks = p .checks; job = p .job; alone = p .alone }
+  counter-set counter = with-alone p (p .alone)
