@@ -71,7 +71,8 @@ module _ (text : List ℕ) (i : ℕ) (len : length text ≡ 20) (inv : stripped 
   last-met h k = stops (omega arith) (strip-last (drop i text) (rw length-drop (omega arith)))
 
 -- `width` and `put_decimal`
-module _ (text : List ℕ) (n first : ℕ) (e : text ≡ digits 10 20 n) (lead : (first + length (stripped text) ≡ 20) × (drop first text ≡ stripped text)) where
+module _ (text : List ℕ) (n first : ℕ) (e : text ≡ digits 10 20 n)
+    (lead : (first + length (stripped text) ≡ 20) × (drop first text ≡ stripped text)) where
   is-decimal : drop first text ≡ decimal n
   unfolding decimal
   is-decimal = lead .1 ∙ ap stripped e
@@ -85,7 +86,8 @@ module _ (text : List ℕ) (n first : ℕ) (e : text ≡ digits 10 20 n) (lead :
     pub digit-fits : k < 20 - first → to < length d
     digit-fits h = list-fits (decimal n) k all so-far (omega (arith, so-wide))
 
-    pub digit-put : k < 20 - first → {d' : List ℕ} {r : ℕ} → Put (getD text (first + k) 0 ∷ []) d to d' r → Put (take (k + 1) (decimal n)) d₀ at d' r
+    pub digit-put : k < 20 - first → {d' : List ℕ} {r : ℕ} → Put (getD text (first + k) 0 ∷ []) d to d' r
+        → Put (take (k + 1) (decimal n)) d₀ at d' r
     digit-put h p = list-put (decimal n) k all so-far (omega (arith, so-wide)) (rw (← getD-drop, is-decimal) at p)
 
     pub digits-put : 20 - first ≤ k → Put (decimal n) d₀ at d to

@@ -13,7 +13,8 @@ use Rattle.words.proofs.Puts.{none-yet, room, and-put, put-first, put-then, tur
 use Rattle.dialogue.specs.Lines.{glyph, digits, decimal, spacedHex, hexes, lineOf, fitting}
 
 -- `put_hex`
-pub hex-put : (w : ℕ) {a b c d : ℕ} {d₀ d₁ d₂ d₃ d₄ d₅ : List ℕ} {at r₁ r₂ r₃ r₄ r₅ : ℕ} → at + 5 ≤ length d₀ → Put (32 ∷ []) d₀ at d₁ r₁
+pub hex-put : (w : ℕ) {a b c d : ℕ} {d₀ d₁ d₂ d₃ d₄ d₅ : List ℕ} {at r₁ r₂ r₃ r₄ r₅ : ℕ}
+    → at + 5 ≤ length d₀ → Put (32 ∷ []) d₀ at d₁ r₁
     → a ≡ glyph (w / 16 / 16 / 16 % 16) → Put (a ∷ []) d₁ r₁ d₂ r₂
     → b ≡ glyph (w / 16 / 16 % 16) → Put (b ∷ []) d₂ r₂ d₃ r₃
     → c ≡ glyph (w / 16 % 16) → Put (c ∷ []) d₃ r₃ d₄ r₄
@@ -35,7 +36,8 @@ hex-fits words d₀ d at k to all so-far h =
     rw hex-long at (turn-fits (λ i. spacedHex (getD words i 0)) (length words) all so-far h)
 
 -- `put_spaced`
-pub spaced-put : {w : ℕ} {ws d₀ d₁ d₂ : List ℕ} {at r₁ r₂ : ℕ} → at + length (w ∷ ws) ≤ length d₀ → Put (w ∷ []) d₀ at d₁ r₁ → Put ws d₁ r₁ d₂ r₂
+pub spaced-put : {w : ℕ} {ws d₀ d₁ d₂ : List ℕ} {at r₁ r₂ : ℕ}
+    → at + length (w ∷ ws) ≤ length d₀ → Put (w ∷ []) d₀ at d₁ r₁ → Put ws d₁ r₁ d₂ r₂
     → Put (w ∷ ws) d₀ at d₂ r₂
 spaced-put {d₀ = d₀} {at = at} h p q =
     let inside : at ≤ length d₀ = omega arith in
@@ -96,6 +98,7 @@ module _ (nr refusal : ℕ) (ws : List ℕ) where
               pub end-fits : r₄ < length d₄
               end-fits = omega (arith, room (and-put counted p₄) (10 ∷ []) (simp (length-append, words-long) (omega (arith, long))))
 
-              pub line-put : {d₅ : List ℕ} {r₅ : ℕ} → Put (10 ∷ []) d₄ r₄ d₅ r₅ → Wrote (fitting (lineOf nr refusal ws) (length d₀)) d₀ d₅ r₅
+              pub line-put : {d₅ : List ℕ} {r₅ : ℕ} → Put (10 ∷ []) d₄ r₄ d₅ r₅
+                  → Wrote (fitting (lineOf nr refusal ws) (length d₀)) d₀ d₅ r₅
               unfolding fitting lineOf
               line-put p₅ = rw (said-yes e q) (and-put (and-put counted p₄) p₅)

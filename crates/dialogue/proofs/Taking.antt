@@ -14,7 +14,8 @@ use Rattle.dialogue.specs.declared.Record.the-variants.{End, Cut, Whole}
 use Rattle.dialogue.specs.Records.{recordWord, recordOf, recordWords, TakeRecordSays}
 
 -- `take_words`
-module _ (bytes words₀ words : List ℕ) (k n : ℕ) (room : n ≤ length words₀) (so-far : Put (inTurn (recordWord (drop 1 bytes)) k) words₀ 0 words k) where
+module _ (bytes words₀ words : List ℕ) (k n : ℕ) (room : n ≤ length words₀)
+    (so-far : Put (inTurn (recordWord (drop 1 bytes)) k) words₀ 0 words k) where
   fits : 0 + length (inTurn (recordWord (drop 1 bytes)) n) ≤ length words₀
   fits = rw (turns-long (recordWord (drop 1 bytes)) 1 (λ i. refl), mul-one) (omega arith)
 
@@ -34,7 +35,8 @@ unfolding recordOf recordWords
 no-record [] words h = record { is = refl; words = sym (over-none words) }
 no-record (n ∷ bytes) words h = absurd (omega arith)
 
-pub cut-record : (bytes words : List ℕ) (n : ℕ) → (length bytes ≡ 0 → ⊥) → n ≡ getD bytes 0 0 → length bytes - 1 < 2 * n → TakeRecordSays Cut bytes words words
+pub cut-record : (bytes words : List ℕ) (n : ℕ) → (length bytes ≡ 0 → ⊥) → n ≡ getD bytes 0 0 → length bytes - 1 < 2 * n
+    → TakeRecordSays Cut bytes words words
 unfolding recordOf recordWords
 cut-record [] words n h e k = absurd (h refl)
 cut-record (b ∷ bytes) words n h e k =

@@ -35,8 +35,10 @@ some-there [] e = absurd (e refl)
 some-there (x ∷ xs) e = refl
 
 -- `answer_words`
-pub replied : (s : State) (number : ℕ) (ws before after : List ℕ) (r : Reply) (d d′ : List ℕ) → length d ≡ longest → Answered r d d′ (requestOf s ws (length d))
-    → (answer : List ℕ) → answer ≡ take (r .count) d′ → (n : ℕ) → Wrote (fitting (lineOf number (r .refusal) answer) (length before)) before after n
+pub replied : (s : State) (number : ℕ) (ws before after : List ℕ) (r : Reply) (d d′ : List ℕ)
+    → length d ≡ longest → Answered r d d′ (requestOf s ws (length d))
+    → (answer : List ℕ) → answer ≡ take (r .count) d′ → (n : ℕ)
+    → Wrote (fitting (lineOf number (r .refusal) answer) (length before)) before after n
     → Replied s number ws before after (r .state) n
 unfolding lineFor
 replied s number ws before after r d d′ long a answer ea n w =
@@ -55,7 +57,8 @@ unfolding lineAt
 line-at s number bytes room r e = rw (← e)
 
 -- a whole record's words in the array that they were taken into
-module _ (r : Record) (bytes w w′ : List ℕ) (t : TakeRecordSays r bytes w w′) (m : ℕ) (whole : r ≡ Whole m) (n : ℕ) (same : n ≡ m) (long : length w ≡ 255) (few : n < 256) where
+module _ (r : Record) (bytes w w′ : List ℕ) (t : TakeRecordSays r bytes w w′)
+    (m : ℕ) (whole : r ≡ Whole m) (n : ℕ) (same : n ≡ m) (long : length w ≡ 255) (few : n < 256) where
   many : length (recordWords bytes) ≡ n
   many = words-long bytes m (rw whole at (t .is)) ∙ sym same
 
@@ -84,7 +87,8 @@ module _ (r : Record) (bytes w w′ : List ℕ) (t : TakeRecordSays r bytes w w�
         record { text = fitted; state = rw (there, ← words-are) (l .state); taken = rw (there, ← t .is, whole, same) }
 
 -- no record, or a cut one
-module _ (s : State) (number : ℕ) (bytes text w w′ : List ℕ) (r : Record) (t : TakeRecordSays r bytes w w′) (said : Said) (e : said ≡ record { state = s; taken = 0; length = 0 }) where
+module _ (s : State) (number : ℕ) (bytes text w w′ : List ℕ) (r : Record) (t : TakeRecordSays r bytes w w′)
+    (said : Said) (e : said ≡ record { state = s; taken = 0; length = 0 }) where
   none-said : lineAt s number bytes (length text) ≡ [] → AnswerSays s number bytes text text said
   none-said is = rw e (record { text = rw is (none-yet text); state = rw is; taken = rw is })
 

@@ -58,22 +58,26 @@ module _ (step : ℕ) (v : Divides step) where
   counts b e t gb ge gt l (inl k) =
       eq-of-mul-eq-mul-right step (v .positive) _ _ (omega (arith, span step v b e gb ge k, span step v e t ge gt l, span step v b t gb gt (omega arith)))
   counts b e t gb ge gt l (inr k) =
-      eq-of-mul-eq-mul-right step (v .positive) _ _ (omega (arith, span-around step v b e gb ge (omega arith), span step v e t ge gt l, span-around step v b t gb gt k))
+      eq-of-mul-eq-mul-right step (v .positive) _ _
+      (omega (arith, span-around step v b e gb ge (omega arith), span step v e t ge gt l, span-around step v b t gb gt k))
 
   -- the shots of two sectors of one function are those of the sector that joins them
-  swept-both : (b : ℕ) (s t : Sector) → s .function ≡ t .function → Grid step b → Grid step (stopOf s) → Grid step (stopOf t) → stopOf s < stopOf t → (b < stopOf s) ⊎ (stopOf t ≤ b)
+  swept-both : (b : ℕ) (s t : Sector) → s .function ≡ t .function
+      → Grid step b → Grid step (stopOf s) → Grid step (stopOf t) → stopOf s < stopOf t → (b < stopOf s) ⊎ (stopOf t ≤ b)
       → swept step b s ++ swept step (stopOf s) t ≡ swept step b t
   swept-both b s t q gb gs gt l w =
       let d = stepAfter step b in
       let n = shotsOf step b s in
       let m = shotsOf step (stopOf s) t in
       ap (λ (f : ℕ). shots step f d n ++ shots step (t .function) (stepAfter step (stopOf s)) m) q
-      ∙ ap (λ (x : ℕ). shots step (t .function) d n ++ shots step (t .function) x m) (sym (on-suc step _ d (omega arith) ∙ ap (stepAfter step) (ends step v gb gs)))
+      ∙ ap (λ (x : ℕ). shots step (t .function) d n ++ shots step (t .function) x m)
+      (sym (on-suc step _ d (omega arith) ∙ ap (stepAfter step) (ends step v gb gs)))
       ∙ sym (shots-append step n m d (t .function))
       ∙ ap (shots step (t .function) d) (counts b (stopOf s) (stopOf t) gb gs gt l w)
 
   -- where a sector is joined to the next one the run stays
-  run-joined : {low : ℕ} (b : ℕ) {s : Sector} {ss r : List Sector} → Join s ss r → Grid step b → Fine step low (s ∷ ss) → (b < stopOf s) ⊎ (lastStop (stopOf s) ss ≤ b)
+  run-joined : {low : ℕ} (b : ℕ) {s : Sector} {ss r : List Sector} → Join s ss r
+      → Grid step b → Fine step low (s ∷ ss) → (b < stopOf s) ⊎ (lastStop (stopOf s) ss ≤ b)
       → runFrom step b r ≡ swept step b s ++ runFrom step (stopOf s) ss
   run-joined b before g h w = refl
   run-joined b {s} (onto {t = t} {ts = ts} q) g (more f a k (more f₂ a₂ k₂ r)) w =
@@ -84,7 +88,8 @@ module _ (step : ℕ) (v : Divides step) where
       reach (inl l) = inl l
       reach (inr l) = inr (omega (arith, last-above step r))
 
-  run-first : {low : ℕ} (b : ℕ) {s : Sector} {ss : List Sector} → Grid step b → Fine step low (s ∷ ss) → (b < stopOf s) ⊎ (lastStop (stopOf s) ss ≤ b)
+  run-first : {low : ℕ} (b : ℕ) {s : Sector} {ss : List Sector}
+      → Grid step b → Fine step low (s ∷ ss) → (b < stopOf s) ⊎ (lastStop (stopOf s) ss ≤ b)
       → runFrom step (stopOf s) (normal ss) ≡ runFrom step (stopOf s) ss → runFrom step b (normal (s ∷ ss)) ≡ runFrom step b (s ∷ ss)
   run-first b {s} {ss} g (more f a k r) w e =
       run-joined b (join-view s (normal ss)) g (more f a k (normal-fine step r)) (rw last-normal w) ∙ ap (λ (l : List Shot). swept step b s ++ l) e

@@ -71,7 +71,8 @@ module _ (p : Plan) (step k sum : ℕ) where
   unfolding litShots
   lit-start = omega arith
 
-  pub lit-ends : (n : ℕ) → n ≡ length (activeOf p) → sum + shotsWith isLit (drop k (arcs step (activeOf p))) ≡ litShots p step → n ≤ k → sum ≡ litShots p step
+  pub lit-ends : (n : ℕ) → n ≡ length (activeOf p)
+      → sum + shotsWith isLit (drop k (arcs step (activeOf p))) ≡ litShots p step → n ≤ k → sum ≡ litShots p step
   lit-ends n e inv h =
       let len = arcs-length step (lastStop 0 (activeOf p)) 0 (activeOf p) in
       omega (arith, rw (drop-of-length-le (arcs step (activeOf p)) {i = k} (omega arith)) at inv)

@@ -17,7 +17,8 @@ use Rattle.plan.proofs.Grids.{Grid}
 -- sectors that are valid, but for that there may be none, with stops of at least low: the tests of `Valid` as a view to match on
 pub data Fine (step : ℕ) : ℕ → List Sector → Type 0 where
   done : {low : ℕ} → Fine step low []
-  more : {low : ℕ} {s : Sector} {ss : List Sector} → T (isFunction (s .function)) → low ≤ stopOf s → Grid step (stopOf s) → Fine step (suc (stopOf s)) ss → Fine step low (s ∷ ss)
+  more : {low : ℕ} {s : Sector} {ss : List Sector} → T (isFunction (s .function))
+      → low ≤ stopOf s → Grid step (stopOf s) → Fine step (suc (stopOf s)) ss → Fine step low (s ∷ ss)
 
 module _ (step : ℕ) where
   head-grid : (s : Sector) (ss : List Sector) → T (every sectorOk (s ∷ ss)) → T (multiples step (s ∷ ss)) → Grid step (stopOf s)
@@ -35,7 +36,8 @@ module _ (step : ℕ) where
   fine : (ss : List Sector) → T (every sectorOk ss) → T (increases ss) → T (multiples step ss) → Fine step 0 ss
   fine [] k h m = done
   fine (s ∷ ss) k h m =
-      more {low = 0} {s = s} (search (and-l, and-r)) (omega arith) (head-grid s ss k m) (fine-after (stopOf s) ss (search (and-l, and-r)) h (search (and-l, and-r)))
+      more {low = 0} {s = s} (search (and-l, and-r)) (omega arith) (head-grid s ss k m)
+      (fine-after (stopOf s) ss (search (and-l, and-r)) h (search (and-l, and-r)))
 
   pub fine-of : {ss : List Sector} → Valid step ss → Fine step 0 ss
   fine-of {ss} v = fine ss (v .in-range) (v .increasing) (v .whole-steps)

@@ -1,7 +1,6 @@
 -- The ways out of the tests of an entry and of a sector, over what the callees ensure.
 use mathlib.Core.Path.{_≡_}
-use mathlib.Core.Bool.{Bool, true, false, not, _&&_, and-true, and-false}
-use Prim.Native.Nat.{ℕ}
+use mathlib.Core.Bool.{Bool, true, false, not, and-true, and-false}
 use borrow.Author.Tests.{eq-eqb, ne-eqb}
 use Rattle.units.specs.Directions.{onCircle}
 use Rattle.words.proofs.Tests.{said-no, said-yes}

@@ -21,9 +21,11 @@ use Rattle.plan.specs.Checks.{litShots, measureError}
 active-ok : (ss : List Sector) → T (every entryInRange ss) → T (every sectorOk (active ss))
 unfolding entryInRange
 active-ok [] h = tt
-active-ok (s ∷ ss) h = go (eqb (s .function) 0) refl (active-ok ss (and-r (entryInRange s) (every entryInRange ss) h)) (and-l (entryInRange s) (every entryInRange ss) h)
+active-ok (s ∷ ss) h =
+    go (eqb (s .function) 0) refl (active-ok ss (and-r (entryInRange s) (every entryInRange ss) h)) (and-l (entryInRange s) (every entryInRange ss) h)
   where
-    go : (b : Bool) → eqb (s .function) 0 ≡ b → T (every sectorOk (active ss)) → T (entryInRange s) → T (every sectorOk (if b then [] else s ∷ active ss))
+    go : (b : Bool) → eqb (s .function) 0 ≡ b → T (every sectorOk (active ss)) → T (entryInRange s)
+        → T (every sectorOk (if b then [] else s ∷ active ss))
     go true e r k = tt
     go false e r k = and-both (sectorOk s) (every sectorOk (active ss)) (rw e at k) r
 
@@ -34,7 +36,8 @@ pub record Passes (p : Plan) (step speed : ℕ) : Type 0 where
   pub few : speed * revolutionShots step ≤ 14400
   pub lit : speed * litShots p step ≤ 10800
 
-tests : (a b c d : Bool) → _≡_ {A = ℕ} (if not a then 3 else if not b then 4 else if c then 1 else if d then 2 else 0) 0 → T a × T b × (c ≡ false) × (d ≡ false)
+tests : (a b c d : Bool) → _≡_ {A = ℕ} (if not a then 3 else if not b then 4 else if c then 1 else if d then 2 else 0) 0
+    → T a × T b × (c ≡ false) × (d ≡ false)
 tests true true false false e = (tt, tt, refl, refl)
 tests true true false true e = absurd (omega arith)
 tests true true true d e = absurd (omega arith)
@@ -44,7 +47,9 @@ tests false b c d e = absurd (omega arith)
 pub passes : (p : Plan) (step speed : ℕ) → measureError p step speed ≡ 0 → Passes p step speed
 unfolding measureError
 passes p step speed e =
-    let t = tests (some (activeOf p) && increases (activeOf p)) (multiples step (activeOf p)) (ltb 14400 (speed * revolutionShots step)) (ltb 10800 (speed * litShots p step)) e in
+    let t =
+    tests (some (activeOf p) && increases (activeOf p)) (multiples step (activeOf p))
+    (ltb 14400 (speed * revolutionShots step)) (ltb 10800 (speed * litShots p step)) e in
     record { rising = t .0; whole = t .1; few = ltb-false _ _ (t .2); lit = ltb-false _ _ (t .3) }
 
 pub valid-of : (p : Plan) (step speed : ℕ) → length (p .sectors) ≡ 8 → T (planInRange p) → measureError p step speed ≡ 0 → ValidPlan step p

@@ -47,7 +47,8 @@ module _ (step : ℕ) (v : Divides step) where
       map-append dir (swept step b s) (runFrom step (stopOf s) ss)
       ∙ ap (λ (l : List ℕ). l ++ map dir (runFrom step (stopOf s) ss)) (directions step (s .function) n (stepAfter step b))
       ∙ ap (λ (l : List ℕ). map dir (shots step 0 (stepAfter step b) n) ++ l) (run-directions h r)
-      ∙ ap (λ (x : ℕ). map dir (shots step 0 (stepAfter step b) n) ++ map dir (shots step 0 x m)) (sym (on-suc step _ (stepAfter step b) (omega arith) ∙ ap (stepAfter step) (ends step v g h)))
+      ∙ ap (λ (x : ℕ). map dir (shots step 0 (stepAfter step b) n) ++ map dir (shots step 0 x m))
+      (sym (on-suc step _ (stepAfter step b) (omega arith) ∙ ap (stepAfter step) (ends step v g h)))
       ∙ sym (map-append dir (shots step 0 (stepAfter step b) n) (shots step 0 (on step (stepAfter step b) n) m))
       ∙ ap (map dir) (sym (shots-append step n m (stepAfter step b) 0))
       ∙ ap (λ (k : ℕ). map dir (shots step 0 (stepAfter step b) k)) (sym (run-more step b s ss))
@@ -58,7 +59,8 @@ module _ (step : ℕ) (v : Divides step) where
 
   -- the shots of a sector lie between the stop before it and its own
   swept-between : (P : Shot → Type 0) (b : ℕ) (s : Sector) → b < circle
-      → ((d : ℕ) (far : ℕ) → step ≤ far → far ≤ shotsOf step b s * step → d ≡ (b + far) % circle → P (record { direction = d; function = s .function }))
+      → ((d : ℕ) (far : ℕ) → step ≤ far → far ≤ shotsOf step b s * step → d ≡ (b + far) % circle
+      → P (record { direction = d; function = s .function }))
       → Each P (swept step b s)
   swept-between P b s l h =
       each-from P noShot (swept step b s)
@@ -102,7 +104,8 @@ module _ (step : ℕ) (v : Divides step) where
           let o = leb-false d (stopOf s) q in
           sym (past-all (stopOf s) r (omega arith))
 
-  all-towards : {low : ℕ} {ss : List Sector} → Fine step low ss → Each (λ (x : Shot). x .function ≡ functionOf (x .direction) ss) (runFrom step (lastStop 0 ss) ss)
+  all-towards : {low : ℕ} {ss : List Sector} → Fine step low ss
+      → Each (λ (x : Shot). x .function ≡ functionOf (x .direction) ss) (runFrom step (lastStop 0 ss) ss)
   all-towards done = none
   all-towards (more {s = s} {ss = ss} f a h r) =
       each-append (zeroth-towards s h r)

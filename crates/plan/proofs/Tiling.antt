@@ -23,7 +23,8 @@ use Rattle.plan.proofs.ArcSums.{arcs-length}
 use Rattle.plan.proofs.Runs.{shots-length}
 
 -- shot k of a sector lies k steps past its first direction
-pub shot-at : (step n k d f : ℕ) → d < circle → k < n → getD (shots step f d n) k noShot ≡ record { direction = (d + k * step) % circle; function = f }
+pub shot-at : (step n k d f : ℕ) → d < circle → k < n
+    → getD (shots step f d n) k noShot ≡ record { direction = (d + k * step) % circle; function = f }
 shot-at step zero k d f h l = absurd (omega arith)
 shot-at step (suc n) zero d f h l = ap (λ (x : ℕ). record { direction = x; function = f }) (omega arith)
 shot-at step (suc n) (suc k) d f h l =

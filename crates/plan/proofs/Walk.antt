@@ -20,7 +20,8 @@ use Rattle.plan.specs.Validity.{increasesFrom, increases}
 use Rattle.plan.specs.Shots.{lastStop, shotsOf, arcOf, arcsFrom, noArc}
 
 -- a test of every one, at the first of them
-module _ {A : Type 0} (test : A → Bool) {xs ys : List A} {x : A} (e : xs ≡ x ∷ ys) {whole b : Bool} (inv : every test xs ≡ whole) (same : b ≡ test x) where
+module _ {A : Type 0} (test : A → Bool) {xs ys : List A} {x : A} (e : xs ≡ x ∷ ys)
+    {whole b : Bool} (inv : every test xs ≡ whole) (same : b ≡ test x) where
   fails : not b ≡ true → false ≡ whole
   fails q = rw (said-no same q) at (rw e at inv)
 
@@ -107,12 +108,14 @@ module _ (l : List Sector) (i : ℕ) (len : length l ≡ 8) where
     pub arc-ends : active (drop i l) ≡ [] → (a : Arc) → a ≡ noArc → a ≡ whole
     arc-ends e a q = q ∙ (rw e at inv)
 
-    pub arc-here : i < 8 → (getD l i unused .function ≡ 0 → ⊥) → i ≡ place → (a : Arc) → a ≡ arcOf step before shot (getD l i unused) → a ≡ whole
+    pub arc-here : i < 8 → (getD l i unused .function ≡ 0 → ⊥) → i ≡ place
+        → (a : Arc) → a ≡ arcOf step before shot (getD l i unused) → a ≡ whole
     arc-here h n e a q =
         let z : place - i ≡ 0 = omega arith in
         q ∙ (rw z at (rw (at-more h n) at inv))
 
-    pub arc-more : i < 8 → (getD l i unused .function ≡ 0 → ⊥) → i ≤ place → (i ≡ place → ⊥) → (k : ℕ) → k ≡ shotsOf step before (getD l i unused)
+    pub arc-more : i < 8 → (getD l i unused .function ≡ 0 → ⊥) → i ≤ place → (i ≡ place → ⊥)
+        → (k : ℕ) → k ≡ shotsOf step before (getD l i unused)
         → getD (arcsFrom step (stopOf (getD l i unused)) (shot + k) (active (drop (i + 1) l))) (place - (i + 1)) noArc ≡ whole
     arc-more h n le ne k q =
         let z : place - i ≡ suc (place - (i + 1)) = omega arith in
@@ -123,5 +126,6 @@ module _ (l : List Sector) (len : length l ≡ 8) where
   pub no-first : getD l 0 unused .function ≡ 0 → false ≡ (some (active l) && increases (active l))
   no-first e = rw (at-zero l 0 len (omega arith) e)
 
-  pub a-first : (getD l 0 unused .function ≡ 0 → ⊥) → increasesFrom (stopOf (getD l 0 unused)) (active (drop 1 l)) ≡ (some (active l) && increases (active l))
+  pub a-first : (getD l 0 unused .function ≡ 0 → ⊥)
+      → increasesFrom (stopOf (getD l 0 unused)) (active (drop 1 l)) ≡ (some (active l) && increases (active l))
   a-first n = rw (at-more l 0 len (omega arith) n)

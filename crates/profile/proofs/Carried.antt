@@ -52,7 +52,8 @@ module _ (s : State) (place : ℕ) where
   shot-there i h =
       let r = pointed (s .step .0) (lastStop 0 (activeOf (s .working))) 0 (activeOf (s .working)) place i h in
       let a = tiling (s .step .0) (s .working) .arc place (r .0) in
-      a .shot i (omega (arith, r .1 .points)) ∙ ap (λ (f : ℕ). record { direction = stepsPast (s .step .0) i (arc .first .0); function = f }) (r .1 .function)
+      a .shot i (omega (arith, r .1 .points))
+      ∙ ap (λ (f : ℕ). record { direction = stepsPast (s .step .0) i (arc .first .0); function = f }) (r .1 .function)
 
 pub points-are-shots : PointsAreShots
 unfolding arcAt pointsOf
@@ -67,7 +68,8 @@ points-are-shots s g mask sent counter place h other =
       step = ap (λ (f : SectorFields). f .step) is;
       body = ap (λ (f : SectorFields). f .body) is
           ∙ turns-same _ _ (arc s place .points)
-          (λ i l. ap (λ (d : ℕ). pointWords mask (getD (g .distances) (arc s place .shot + i) 0) d (getD (g .echoes) (arc s place .shot + i) 0)) (sym (ap (λ (x : Shot). x .direction) (shot-there s place i l))));
+          (λ i l. let k = arc s place .shot + i in
+          ap (λ (x : Shot). pointWords mask (getD (g .distances) k 0) (x .direction) (getD (g .echoes) k 0)) (sym (shot-there s place i l)));
       measured = λ i l. ap (λ (x : Shot). x .function) (shot-there s place i l);
     }
 
@@ -85,7 +87,8 @@ sent-length s g =
     record {
       words = job-long s g (s .job);
       counted =
-          λ room. revolution-by (λ x. x .reply .refusal ≡ 0 → x .reply .count ≡ sentLength s) s g room (λ n z e. absurd (z e)) (λ _. job-long s g (s .job));
+          λ room. revolution-by (λ x. x .reply .refusal ≡ 0 → x .reply .count ≡ sentLength s) s g room (λ n z e. absurd (z e))
+          (λ _. job-long s g (s .job));
     }
 
 some-one : {A : Type 0} (l : List A) → T (some l) → 1 ≤ length l
@@ -113,7 +116,8 @@ pub never-longer : NeverLonger
 never-longer s g t = rw (sent-length s g .words) (most (isJob (s .job)))
   where
     most : (b : Bool)
-        → (if b then profileLength (jobNumbers (s .job) .mask) (length (activeOf (s .working))) (total (λ a. a .points) (arcsOf s)) else 0) ≤ greatestLength
+        → (if b then profileLength (jobNumbers (s .job) .mask) (length (activeOf (s .working))) (total (λ a. a .points) (arcsOf s)) else 0)
+        ≤ greatestLength
     most true = greatest (jobNumbers (s .job) .mask) _ _ (eight-most s g t) (points-most s g t)
     most false = omega arith
 

@@ -32,7 +32,8 @@ module _ (p : Plan) (step k sum : ℕ) where
   len : length (arcs step (activeOf p)) ≡ length (activeOf p)
   len = arcs-length step (lastStop 0 (activeOf p)) 0 (activeOf p)
 
-  pub points-end : (n : ℕ) → n ≡ length (activeOf p) → sum + total (λ a. a .points) (drop k (arcs step (activeOf p))) ≡ total (λ a. a .points) (arcs step (activeOf p))
+  pub points-end : (n : ℕ) → n ≡ length (activeOf p)
+      → sum + total (λ a. a .points) (drop k (arcs step (activeOf p))) ≡ total (λ a. a .points) (arcs step (activeOf p))
       → n ≤ k → sum ≡ total (λ a. a .points) (arcs step (activeOf p))
   points-end n e inv h = let l = len in omega (arith, rw (drop-of-length-le (arcs step (activeOf p)) {i = k} (omega arith)) at inv)
 

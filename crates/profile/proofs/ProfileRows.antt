@@ -13,7 +13,8 @@ use Rattle.profile.specs.Revolutions.{revolved, revolutionRefusal, revol
 use Rattle.profile.specs.Figures.{ProfileFigures, ListingFigures}
 
 pub profile-figures : ProfileFigures
-unfolding revolutionOf delivered revolutionRefusal revolved inRange configOk isStep entryInRange planInRange litShots measureError maskOk pointsOf pointWords inTurn profileLength
+unfolding revolutionOf delivered revolutionRefusal revolved inRange configOk isStep entryInRange planInRange
+    litShots measureError maskOk pointsOf pointWords inTurn profileLength
 profile-figures = refl
 
 pub listing-figures : ListingFigures

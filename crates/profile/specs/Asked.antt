@@ -18,7 +18,7 @@ use Rattle.state.specs.declared.Job.the-variants.{Absent, Counted, Endless}
 use Rattle.state.specs.Ranges.{isMeasure, inRange}
 use Rattle.state.specs.Replies.{Outcome}
 use Rattle.profile.specs.Points.{selected}
-use Rattle.profile.specs.Profiles.{Scan, pointsOf, sectorOf, sectorsOf, arcsOf, rateOf, fieldsOf}
+use Rattle.profile.specs.Profiles.{Scan, pointsOf, sectorOf, sectorsOf, arcsOf, fieldsOf}
 use Rattle.profile.specs.Revolutions.{risen, turned, listsFit}
 
 -- the words of a sector before its points, and behind them

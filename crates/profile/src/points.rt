@@ -1,5 +1,4 @@
 // The points of a sector.
-ghost use mathlib.Core.Path.{_≡_};
 ghost use Prim.Native.Nat.{_+_, _≤_};
 ghost use lib.ListN.{length};
 ghost use Rattle.words.specs.Buffers.{Put, Wrote};

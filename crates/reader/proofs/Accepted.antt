@@ -1,11 +1,11 @@
 -- The ways a reading goes, and what a list of words has whose body is read: a head that passes, and the words that are left.
-use Prim.Native.Nat.{ℕ, zero, suc, _%_, _<_}
+use Prim.Native.Nat.{ℕ, zero, suc, _<_}
 use mathlib.Core.Path.{_≡_, refl, sym, _∙_, ap, subst}
 use mathlib.Core.List.{List, [], _∷_}
 use mathlib.Core.Bool.{Bool, true, false}
 use native.Mathlib.Omega.{arith}
 use lib.Dec.{eqb}
-use lib.ListN.{length, getD, drop, length-map}
+use lib.ListN.{length, drop, length-map}
 use borrow.Author.Tests.{eqb-true, eqb-false}
 use Rattle.words.specs.Parse.{Got, short, got}
 use Rattle.words.specs.Format.{AllOk}

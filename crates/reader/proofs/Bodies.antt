@@ -1,10 +1,9 @@
 -- What stands behind the first three words: its format has the laws, and reading it by places is reading it.
-use Prim.Native.Nat.{ℕ, _+_, _%_, _≤_, _<_}
+use Prim.Native.Nat.{ℕ, _+_, _≤_, _<_}
 use mathlib.Core.Path.{_≡_, sym, _∙_, ap}
 use mathlib.Core.List.{List, []}
 use native.Mathlib.Nat.{zero-add}
 use native.Mathlib.Omega.{arith}
-use lib.Dec.{eqb}
 use lib.ListN.{length, drop, length-drop, drop-of-length-le}
 use lib.Seq.{drop-cons}
 use borrow.Author.Tests.{le-leb, lt-leb}
@@ -90,7 +89,9 @@ module _ (mask count : ℕ) (ws : List ℕ) (long : headLength ≤ length ws) wh
 
   module _ (w : BodyWalk mask count ws) where
     abbrev pub walked : Body SectorReading
-    walked = (w .sent .word, (w .counter .word, (w .layer .word, (valueOf [] (fromPlace (times count (sector mask)) ws (w .layer .at)), (w .high .word, (w .low .word, tt))))))
+    walked =
+        let list = valueOf [] (fromPlace (times count (sector mask)) ws (w .layer .at)) in
+        (w .sent .word, (w .counter .word, (w .layer .word, (list, (w .high .word, (w .low .word, tt))))))
 
     found : body mask count .parse headLength (drop headLength ws) ≡ outAt ws 0 walked (w .low .at)
     unfolding by-places

@@ -2,7 +2,7 @@
 use Prim.Native.Nat.{ℕ, zero, suc, _+_}
 use mathlib.Core.Path.{_≡_, refl, sym, _∙_, ap}
 use mathlib.Core.List.{List, [], _∷_, _++_, append-assoc, append-nil}
-use lib.ListN.{length, getD, drop}
+use lib.ListN.{length, drop}
 use Rattle.words.specs.Lists.{Each, none, this}
 use Rattle.words.specs.Words.{laidAll}
 use Rattle.words.specs.Format.{AllOk}
@@ -96,7 +96,8 @@ module _ (ws : List ℕ) (head : GoodHead ws) (b : Body SectorFields) (ok : body
       }
 
   -- words that go on as the format lays them out are laid out
-  pub laid : (more rest : List ℕ) → drop headLength ws ++ more ≡ body (maskIn ws) (countIn ws) .put b ++ rest → ws ++ more ≡ layout (fieldsOf (maskIn ws) b) ++ rest
+  pub laid : (more rest : List ℕ) → drop headLength ws ++ more ≡ body (maskIn ws) (countIn ws) .put b ++ rest
+      → ws ++ more ≡ layout (fieldsOf (maskIn ws) b) ++ rest
   laid more rest e =
       let third : infoIn ws ≡ oneLayer + length (b .1 .1 .1 .0) = head .third ∙ ap (λ (n : ℕ). oneLayer + n) (sym as-many) in
       let behind = e ∙ ap (λ (l : List ℕ). l ++ rest) (sym (rest-put (maskIn ws) (countIn ws) (fieldsOf (maskIn ws) b))) in

@@ -36,7 +36,8 @@ map-none : {A : Type 0} (g : Got (List A)) → g ≡ mapGot (λ ys. [] ++ ys) g
 map-none short = refl
 map-none (got a b ws) = refl
 
-map-more : {A : Type 0} (xs : List A) (x : A) (g : Got (List A)) → mapGot (λ ys. xs ++ ys) (mapGot (λ ys. x ∷ ys) g) ≡ mapGot (λ ys. (xs ++ (x ∷ [])) ++ ys) g
+map-more : {A : Type 0} (xs : List A) (x : A) (g : Got (List A))
+    → mapGot (λ ys. xs ++ ys) (mapGot (λ ys. x ∷ ys) g) ≡ mapGot (λ ys. (xs ++ (x ∷ [])) ++ ys) g
 map-more xs x short = refl
 map-more xs x (got ys b ws) = ap (λ zs. got zs b ws) (sym (append-assoc xs (x ∷ []) ys))
 
@@ -56,11 +57,13 @@ module _ (words : List ℕ) (mask count from : ℕ) where
       rw e (record { counted = zero-le; place = h; slots = length-replicate 8 blankSector; blanks = refl; found = rw all (map-none _) })
 
   -- nothing was read whole
-  none-read : (r : Sectors) → r .at ≡ length words + 1 → r .list ≡ replicate 8 blankSector → fromPlace (times count (sector mask)) words from ≡ short
+  none-read : (r : Sectors) → r .at ≡ length words + 1 → r .list ≡ replicate 8 blankSector
+      → fromPlace (times count (sector mask)) words from ≡ short
       → SectorsRead words mask count from r
   none-read r p q e = record { is = rw e (λ j. record { at = p j; list = q j }); within = omega arith }
 
-  pub past-end : length words < from → (r : Sectors) → r .at ≡ length words + 1 → r .list ≡ replicate 8 blankSector → SectorsRead words mask count from r
+  pub past-end : length words < from → (r : Sectors) → r .at ≡ length words + 1 → r .list ≡ replicate 8 blankSector
+      → SectorsRead words mask count from r
   past-end h r p q = none-read r p q (rw (lt-leb from (length words) h))
 
   module _ (list : List SectorReading) (at k : ℕ) (h : SoFar words mask count from list at k) where

@@ -42,7 +42,8 @@ module _ (ws : List ℕ) (place : ℕ) (here : place < readOf ws .count) where
 
   ok : sector (maskIn ws) .ok (sector (maskIn ws) .strip ws at)
   ok =
-      let all : AllOk (sector (maskIn ws) .ok) (countIn ws) (map (sector (maskIn ws) .strip ws) (found ws place here)) = body-sound (whole ws place here) .fits .1 .1 .1 .0 in
+      let all : AllOk (sector (maskIn ws) .ok) (countIn ws) (map (sector (maskIn ws) .strip ws) (found ws place here)) =
+      body-sound (whole ws place here) .fits .1 .1 .1 .0 in
       rw (at-place ws place here) (each-at blankSector place (all-mapped _ _ (countIn ws) (found ws place here) all) (read-there ws place here))
 
   point-words : at .len ≡ numberOf (at .points) * pointWidth (maskIn ws)

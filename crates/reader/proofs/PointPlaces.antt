@@ -44,7 +44,8 @@ module _ (ws : List ℕ) (place : ℕ) (here : place < readOf ws .count) where
       let n = headLength + length (drop headLength ws) in
       let all : body (maskIn ws) (countIn ws) .inside n (whole .value) =
       subst (InsideOf (body (maskIn ws) (countIn ws)) n) (whole .parsed) (body-lawful (maskIn ws) (countIn ws) .within headLength (drop headLength ws)) in
-      let e : getD found place blankSector .start + getD found place blankSector .len ≤ n = each-at blankSector place (all .1 .1 .1 .0) read-there .1 .1 .1 .1 .1 .0 in
+      let e : getD found place blankSector .start + getD found place blankSector .len ≤ n =
+      each-at blankSector place (all .1 .1 .1 .0) read-there .1 .1 .1 .1 .1 .0 in
       rw at-place (omega (arith, length-drop headLength ws, whole .head .long))
 
 -- the same of what a reader holds

@@ -47,7 +47,8 @@ whole-laid ws s = laid-out s ∙ append-nil (layout (fields s))
 pub put-together : PutTogether
 put-together ws e =
     let s = accepted ws e in
-    ap (λ (r : Reading). layout (fieldsIn ws r)) (s .reading) ∙ ap layout (fields-strip ws (maskIn ws) (countIn ws) (s .value) (many-sectors s)) ∙ sym (whole-laid ws s)
+    ap (λ (r : Reading). layout (fieldsIn ws r)) (s .reading)
+    ∙ ap layout (fields-strip ws (maskIn ws) (countIn ws) (s .value) (many-sectors s)) ∙ sym (whole-laid ws s)
 
 -- what is laid out is read, with the fields that were laid out, and what stands behind it is left over
 
@@ -72,7 +73,8 @@ module _ (f : Fields) (w : Acceptable f) (more : List ℕ) where
       sym (passed (layout f ++ more) (λ z. omega arith) refl (omega arith) (is-true (w .mask)) third-ok refl (not-true (uncounted m) (is-true (w .counted))))
 
   pub read-back : Complete (body m n) (layout f ++ more) headLength (bodyFields f) more
-  read-back = body-lawful m n .complete (layout f ++ more) headLength (bodyFields f) more (body-ok f (w .fits)) (ap (λ (ws : List ℕ). ws ++ more) (rest-put m n f))
+  read-back =
+      body-lawful m n .complete (layout f ++ more) headLength (bodyFields f) more (body-ok f (w .fits)) (ap (λ (ws : List ℕ). ws ++ more) (rest-put m n f))
 
   pub reading : readOf (layout f ++ more) ≡ ended m n (got (read-back .value) (read-back .place) more)
   reading = rw counts at (by-body (layout f ++ more) head-passes {g = got (read-back .value) (read-back .place) more} (rw counts (read-back .reads)))

@@ -10,5 +10,6 @@ use Rattle.sensor.specs.Requests.{serviceRefusal, requestRefusal, outcom
 use Rattle.sensor.specs.Figures.{dialogue, RequestFigures}
 
 pub request-figures : RequestFigures
-unfolding dialogue requestOf delivered requestRefusal serviceRefusal outcome serviceOf inRange configOk isStep entryInRange planInRange litShots measureError maskOk
+unfolding dialogue requestOf delivered requestRefusal serviceRefusal outcome serviceOf inRange configOk isStep entryInRange planInRange
+    litShots measureError maskOk
 request-figures = refl

@@ -3,7 +3,7 @@ use mathlib.Core.Path.{_≡_, refl, sym, ap, _∙_}
 use mathlib.Core.Logic.{_↔_, inl, inr}
 use mathlib.Core.Bool.{Bool, true, false, not}
 use mathlib.Core.List.{List, [], _∷_}
-use Prim.Native.Nat.{ℕ, _+_}
+use Prim.Native.Nat.{ℕ}
 use native.Mathlib.Omega.{arith}
 use lib.Dec.{T, eqb}
 use lib.ListN.{length, getD, take}
@@ -14,15 +14,14 @@ use Rattle.state.specs.declared.State.{State}
 use Rattle.state.specs.Fields.{withConfig}
 use Rattle.state.specs.Changes.{Part, onlyIn}
 use Rattle.state.specs.Ranges.{configOk}
-use Rattle.state.specs.Replies.{Result}
 use Rattle.state.proofs.Parts.{parts}
 use Rattle.state.proofs.SameParts.{same-in}
 use Rattle.services.specs.Answers.{answer, noValue}
 use Rattle.services.specs.Configuration.{configItem, configTaken}
 use Rattle.services.proofs.Lawful.{Responds}
 use Rattle.sensor.specs.declared.Service.{Service}
-use Rattle.sensor.specs.Table.{rowOf, response, serviceOf, outcomeOf, isListed, silent}
-use Rattle.sensor.specs.Requests.{outcome, requestRefusal}
+use Rattle.sensor.specs.Table.{rowOf, response, serviceOf, outcomeOf, silent}
+use Rattle.sensor.specs.Requests.{outcome}
 use Rattle.sensor.specs.Demands.{TableHolds, OnlyThese}
 use Rattle.sensor.proofs.Codes.{Has, service-has}
 use Rattle.sensor.proofs.Lawful.{lawful, outcome-fine}
@@ -35,7 +34,8 @@ first-word false code ws r h = r
 
 no-word : (b : Bool) (code : ℕ) (ws : List ℕ) → Responds b code ws → (ws ≡ []) ↔ T b
 no-word true code ws r = (λ _. tt, λ _. r)
-no-word false code ws r = (λ e. (let z : _≡_ {A = ℕ} 0 1 = ap (λ (l : List ℕ). length (take 1 l)) (sym e) ∙ ap length r in omega arith), λ h. absurd h)
+no-word false code ws r =
+    (λ e. (let z : _≡_ {A = ℕ} 0 1 = ap (λ (l : List ℕ). length (take 1 l)) (sym e) ∙ ap length r in omega arith), λ h. absurd h)
 
 pub table-holds : TableHolds
 table-holds v h =
@@ -76,7 +76,8 @@ set-config-code : serviceOf (rowOf Service.SetConfig .code) ≡ Service.SetConfi
 unfolding serviceOf
 set-config-code = refl
 
-no-config : (s : State) (code : ℕ) (v : Service) (a b c d : ℕ) → Has code v → outcomeOf v s a b c d .words ≡ noConfig → outcomeOf v s a b c d .after ≡ s
+no-config : (s : State) (code : ℕ) (v : Service) (a b c d : ℕ) → Has code v → outcomeOf v s a b c d .words ≡ noConfig
+    → outcomeOf v s a b c d .after ≡ s
 no-config s code v a b c d (inl h) q =
     let same = code-is (silent v a b c d) (rowOf v .code) _ (lawful v .fine s _ a b c d .responds) q in
     let w : v ≡ Service.SetConfig = sym (lawful v .found) ∙ ap serviceOf same ∙ set-config-code in

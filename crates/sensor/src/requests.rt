@@ -1,7 +1,7 @@
 // One request: refusals 1 to 6 in their order, and the answer written last.
 ghost use mathlib.Core.Path.{_≡_};
 ghost use Prim.Native.Nat.{_≤_};
-ghost use lib.ListN.{length, getD, take};
+ghost use lib.ListN.{length, take};
 ghost use Rattle.words.specs.Buffers.{over};
 ghost use Rattle.state.specs.Replies.{Answered, delivered};
 ghost use Rattle.services.specs.Answers.{longest, Gives, unpacked};

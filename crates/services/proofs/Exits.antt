@@ -75,7 +75,8 @@ module _ (r : Served) (s : State) (code number mask : ℕ) where
   job-starts j t h ej et g = rw (ne-eqb _ _ h) (rw (et, ej) at g)
 
 -- `cold`, `stop_measure`
-pub is-cold : (s a b c t : State) → a ≡ idleOf s → b ≡ withPlans a (s .stored) (s .stored) → c ≡ withPort b 0 → t ≡ withCounter c 0 → t ≡ coldOf s
+pub is-cold : (s a b c t : State)
+    → a ≡ idleOf s → b ≡ withPlans a (s .stored) (s .stored) → c ≡ withPort b 0 → t ≡ withCounter c 0 → t ≡ coldOf s
 is-cold s a b c t ea eb ec et = rw (et, ec, eb, ea)
 
 pub measure-ends : (s t : State) → s .mode ≡ Measure → t ≡ withDrive s Rotate (s .running) Absent → t ≡ stopMeasure s (s .mode)

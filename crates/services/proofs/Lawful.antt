@@ -1,7 +1,7 @@
 -- What holds of every service, and the laws from which it is shown: one for each way to set the state, and one for a test. A new service
 -- cites them.
 use mathlib.Core.Path.{_≡_, refl, sym, ap}
-use mathlib.Core.Bool.{Bool, true, false, not, _||_}
+use mathlib.Core.Bool.{Bool, true, false, _||_}
 use mathlib.Core.List.{List, [], _∷_, _++_}
 use Prim.Native.Nat.{ℕ, zero, suc, _+_, _/_, _%_, _≤_}
 use native.Mathlib.Omega.{arith}
@@ -31,7 +31,7 @@ use Rattle.services.specs.Answers.{answer, answerStatus, senstat, longes
 use Rattle.services.specs.Configuration.{configItem, configTaken, setConfig, sectorSet, functionSet, stopSet, workingSet, setFunction}
 use Rattle.services.specs.Measurement.{newJob, startsJob, getProfile, cancelProfile}
 use Rattle.services.specs.Status.{setSignal}
-use Rattle.services.specs.Working.{driveParts, resetParts, idleOf, coldOf, stopMeasure, doReset, transIdle, transRotate, measureOf, transMeasure}
+use Rattle.services.specs.Working.{driveParts, resetParts, idleOf, coldOf, stopMeasure, doReset, transIdle, transRotate, transMeasure}
 
 -- the response code is the first word, or there is none at all where none is due
 abbrev pub Responds : Bool → ℕ → List ℕ → Type 0
@@ -52,7 +52,8 @@ pub record Fine (silent : Bool) (code : ℕ) (changes : List Part) (Asked : Type
   pub kept : Asked → Parts s → Parts (o .after)
 
 -- by a test
-pub chosen : {A B : Type 0} (P : B → Type 0) (f : A → B) (b : Bool) (x y : A) → (b ≡ true → P (f x)) → (b ≡ false → P (f y)) → P (f (if b then x else y))
+pub chosen : {A B : Type 0} (P : B → Type 0) (f : A → B) (b : Bool) (x y : A)
+    → (b ≡ true → P (f x)) → (b ≡ false → P (f y)) → P (f (if b then x else y))
 chosen P f true x y h k = h refl
 chosen P f false x y h k = k refl
 
@@ -205,7 +206,8 @@ module _ {Asked : Type 0} (s : State) (code : ℕ) where
   pub reset-fine : (level : ℕ) → Fine false code resetParts Asked s (doReset s code level)
   reset-fine level =
       chosen (Fine false code resetParts Asked s) (λ t. answer t words) (ltb level 2) _ _ (λ _. cold)
-      (λ _. chosen (Fine false code resetParts Asked s) (λ t. answer t words) (eqb level 2) _ _ (λ _. stop (s .mode) refl) (λ _. stays code s words refl tt refl))
+      (λ _. chosen (Fine false code resetParts Asked s) (λ t. answer t words) (eqb level 2) _ _
+      (λ _. stop (s .mode) refl) (λ _. stays code s words refl tt refl))
     where
       words : List ℕ
       words = code ∷ level ∷ []

@@ -15,4 +15,5 @@ unpacked-long v e h = length-take-le _ _ (omega arith)
 pub unpacks : (v : Served) (o : Outcome) → Gives v o → unpacked v ≡ o
 unpacks v o g =
     let short : length (o .words) ≤ longest = rw (g .same) at (g .short) in
-    ap unpacked (g .same) ∙ rw (take-take (length (o .words)) longest (o .words ++ replicate longest 0) short, take-append-seam (o .words) (replicate longest 0))
+    ap unpacked (g .same)
+    ∙ rw (take-take (length (o .words)) longest (o .words ++ replicate longest 0) short, take-append-seam (o .words) (replicate longest 0))

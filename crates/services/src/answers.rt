@@ -1,5 +1,4 @@
 // Short answers, over zeros.
-ghost use mathlib.Core.Path.{_≡_};
 ghost use mathlib.Core.List.{[], _∷_, _++_};
 ghost use Rattle.services.specs.Answers.{answer, senstat, answerStatus, Gives};
 use crate::LONGEST;

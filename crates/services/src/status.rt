@@ -1,5 +1,4 @@
 // GET_STATUS, GET_SIGNAL, SET_SIGNAL.
-ghost use mathlib.Core.Path.{_≡_};
 ghost use Rattle.services.specs.Answers.{Gives};
 ghost use Rattle.services.specs.Status.{getStatus, getSignal, setSignal};
 use crate::Served;

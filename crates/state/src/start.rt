@@ -1,5 +1,4 @@
 // The state of a sensor that was just switched on.
-ghost use mathlib.Core.Path.{_≡_};
 ghost use Rattle.state.specs.Fresh.{FreshSays};
 use crate::Job;
 use crate::Mode;

@@ -81,7 +81,8 @@ many-extends n =
     }
 
 -- m is k and then l, which goes by the key of what k has; make puts together what both read, and pair what both lay out
-module _ {K A F B G C H : Type 0} (k : Format A F) (key : A → K) (keyF : F → K) (l : K → Format B G) (m : Format C H) (make : A → B → C) (pair : F → G → H)
+module _ {K A F B G C H : Type 0} (k : Format A F) (key : A → K) (keyF : F → K) (l : K → Format B G) (m : Format C H)
+    (make : A → B → C) (pair : F → G → H)
     (keys : (W : List ℕ) (a : A) → keyF (k .strip W a) ≡ key a)
     (laid : (f : F) (g : G) → m .put (pair f g) ≡ k .put f ++ l (keyF f) .put g)
     (fit : (f : F) (g : G) → k .ok f → l (keyF f) .ok g → m .ok (pair f g)) (l-extends : (x : K) → Extends (l x)) where
@@ -98,7 +99,8 @@ module _ {K A F B G C H : Type 0} (k : Format A F) (key : A → K) (keyF : F →
       }
 
   -- they end in l, behind what k read
-  second-short : (W : List ℕ) (b : ℕ) (a : A) (b₁ : ℕ) (ws₁ : List ℕ) → Sound k W b a b₁ ws₁ → (g : Got B) → ExtendedOf (l (key a)) (drop b₁ W) g
+  second-short : (W : List ℕ) (b : ℕ) (a : A) (b₁ : ℕ) (ws₁ : List ℕ)
+      → Sound k W b a b₁ ws₁ → (g : Got B) → ExtendedOf (l (key a)) (drop b₁ W) g
       → ExtendedOf m (drop b W) (mapGot (make a) g)
   second-short W b a b₁ ws₁ s (got c b₂ ws₂) t = tt
   second-short W b a b₁ ws₁ s short t =
@@ -144,7 +146,8 @@ times-extends k h (suc n) =
       any = h .any ∷ fewer .any;
       any-fits = (h .any-fits, fewer .any-fits);
       extend =
-          λ W b. both-extend k (λ _. tt {0}) (λ _. tt {0}) (λ _. times n k) (times (suc n) k) (λ x xs. x ∷ xs) (λ f fs. f ∷ fs) (λ W a. refl) (λ f fs. refl)
+          λ W b. both-extend k (λ _. tt {0}) (λ _. tt {0}) (λ _. times n k) (times (suc n) k) (λ x xs. x ∷ xs) (λ f fs. f ∷ fs)
+          (λ W a. refl) (λ f fs. refl)
           (λ f fs s t. (s, t)) (λ _. fewer) W b (k .parse b (drop b W)) (h .lawful .sound W b) (h .extend W b);
     }
 

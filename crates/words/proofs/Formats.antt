@@ -15,7 +15,8 @@ pub record Makes {A F B G C H : Type 0} (k : Format A F) (l : A → Format B G) 
   pub put : (W : List ℕ) (a : A) (c : B) → m .put (m .strip W (make a c)) ≡ k .put (k .strip W a) ++ l a .put (l a .strip W c)
   pub ok : (W : List ℕ) (a : A) (c : B) → k .ok (k .strip W a) → l a .ok (l a .strip W c) → m .ok (m .strip W (make a c))
   pub inside : (n : ℕ) (a : A) (c : B) → k .inside n a → l a .inside n c → m .inside n (make a c)
-  pub stands : (W : List ℕ) (b : ℕ) (a : A) (c : B) → k .stands W b a → l a .stands W (b + length (k .put (k .strip W a))) c → m .stands W b (make a c)
+  pub stands : (W : List ℕ) (b : ℕ) (a : A) (c : B)
+      → k .stands W b a → l a .stands W (b + length (k .put (k .strip W a))) c → m .stands W b (make a c)
 
 -- k and then l
 abbrev pub both : {A B C : Type 0} → Got A → (A → Parser B) → (A → B → C) → Got C
@@ -42,16 +43,19 @@ module _ {A F B G C H : Type 0} (k : Format A F) (l : A → Format B G) (m : For
   second-within n a s (got c b₂ ws₂) t = made .inside n a c s t
 
   pub both-within : (b : ℕ) (ws : List ℕ) (g : Got A) → KeptOf b ws g → InsideOf k (b + length ws) g
-      → ((a : A) (b₁ : ℕ) (ws₁ : List ℕ) → InsideOf (l a) (b₁ + length ws₁) (l a .parse b₁ ws₁)) → InsideOf m (b + length ws) (both g (λ a. l a .parse) make)
+      → ((a : A) (b₁ : ℕ) (ws₁ : List ℕ) → InsideOf (l a) (b₁ + length ws₁) (l a .parse b₁ ws₁))
+      → InsideOf m (b + length ws) (both g (λ a. l a .parse) make)
   both-within b ws short e s t = tt
   both-within b ws (got a b₁ ws₁) e s t =
       second-within (b + length ws) a s (l a .parse b₁ ws₁) (subst (λ (n : ℕ). InsideOf (l a) n (l a .parse b₁ ws₁)) e (t a b₁ ws₁))
 
-  second-kept : (b : ℕ) (ws : List ℕ) (a : A) (b₁ : ℕ) (ws₁ : List ℕ) → b₁ + length ws₁ ≡ b + length ws → (g : Got B) → KeptOf b₁ ws₁ g → KeptOf b ws (mapGot (make a) g)
+  second-kept : (b : ℕ) (ws : List ℕ) (a : A) (b₁ : ℕ) (ws₁ : List ℕ)
+      → b₁ + length ws₁ ≡ b + length ws → (g : Got B) → KeptOf b₁ ws₁ g → KeptOf b ws (mapGot (make a) g)
   second-kept b ws a b₁ ws₁ s short t = tt
   second-kept b ws a b₁ ws₁ s (got c b₂ ws₂) t = t ∙ s
 
-  pub both-kept : (b : ℕ) (ws : List ℕ) (g : Got A) → KeptOf b ws g → ((a : A) (b₁ : ℕ) (ws₁ : List ℕ) → KeptOf b₁ ws₁ (l a .parse b₁ ws₁))
+  pub both-kept : (b : ℕ) (ws : List ℕ) (g : Got A) → KeptOf b ws g
+      → ((a : A) (b₁ : ℕ) (ws₁ : List ℕ) → KeptOf b₁ ws₁ (l a .parse b₁ ws₁))
       → KeptOf b ws (both g (λ a. l a .parse) make)
   both-kept b ws short s t = tt
   both-kept b ws (got a b₁ ws₁) s t = second-kept b ws a b₁ ws₁ s (l a .parse b₁ ws₁) (t a b₁ ws₁)
@@ -68,7 +72,8 @@ module _ {A F B G C H : Type 0} (k : Format A F) (l : A → Format B G) (m : For
       let long = ap length (s .words) ∙ length-append (k .put (k .strip W a)) ws₁ in
       rw (← s .rest) (second-located W b a h b₁ (omega arith) (l a .parse b₁ (drop b₁ W)) (t a b₁))
 
-pub both-read : {A F B G C : Type 0} (k : Format A F) (l : A → Format B G) (make : A → B → C) (W : List ℕ) (b : ℕ) (f : F) (g : G) (mid post : List ℕ)
+pub both-read : {A F B G C : Type 0} (k : Format A F) (l : A → Format B G) (make : A → B → C)
+    (W : List ℕ) (b : ℕ) (f : F) (g : G) (mid post : List ℕ)
     → (s : Complete k W b f mid) (t : Complete (l (s .value)) W (s .place) g post)
     → both (k .parse b (drop b W)) (λ a. l a .parse) make ≡ got (make (s .value) (t .value)) (t .place) post
 both-read k l make W b f g mid post s t = rw (s .reads, ← s .behind, t .reads)
@@ -103,7 +108,8 @@ module _ {K A F B G : Type 0} (k : Format A F) (key : A → K) (keyF : F → K) 
   chain-lawful =
       record {
         sound = λ W b. both-sound k _ _ _ chain-makes W b (k .parse b (drop b W)) (k-lawful .sound W b) (λ a. l-lawful (key a) .sound W);
-        complete = λ W b f post o e. chain-complete W b f post o (k-lawful .complete W b (f .0) (l (keyF (f .0)) .put (f .1) ++ post) (o .0) (rw append-assoc at e));
+        complete =
+            λ W b f post o e. chain-complete W b f post o (k-lawful .complete W b (f .0) (l (keyF (f .0)) .put (f .1) ++ post) (o .0) (rw append-assoc at e));
         kept = λ b ws. both-kept k _ _ _ chain-makes b ws (k .parse b ws) (k-lawful .kept b ws) (λ a. l-lawful (key a) .kept);
         within = λ b ws. both-within k _ _ _ chain-makes b ws (k .parse b ws) (k-lawful .kept b ws) (k-lawful .within b ws) (λ a. l-lawful (key a) .within);
         located =
@@ -121,7 +127,8 @@ module _ {A F : Type 0} (k : Format A F) (k-lawful : Lawful k) where
   times-sound zero W b = record { rest = refl; words = refl; fits = tt }
   times-sound (suc n) W b = both-sound k _ _ _ (times-makes n) W b (k .parse b (drop b W)) (k-lawful .sound W b) (λ a. times-sound n W)
 
-  times-complete : (n : ℕ) (W : List ℕ) (b : ℕ) (fs : List F) (post : List ℕ) → AllOk (k .ok) n fs → drop b W ≡ laidAll (k .put) fs ++ post → Complete (times n k) W b fs post
+  times-complete : (n : ℕ) (W : List ℕ) (b : ℕ) (fs : List F) (post : List ℕ)
+      → AllOk (k .ok) n fs → drop b W ≡ laidAll (k .put) fs ++ post → Complete (times n k) W b fs post
   times-complete zero W b [] post o e = record { value = []; place = b; reads = ap (got [] b) e; same = refl; behind = e }
   times-complete zero W b (f ∷ fs) post o e = absurd o
   times-complete (suc n) W b [] post o e = absurd o

@@ -109,7 +109,8 @@ one-lawful on =
 
 -- n words
 
-many-complete : (n : ℕ) (W : List ℕ) (b : ℕ) (f : List ℕ) (post : List ℕ) → length f ≡ n → drop b W ≡ f ++ post → Complete (many n) W b f post
+many-complete : (n : ℕ) (W : List ℕ) (b : ℕ) (f : List ℕ) (post : List ℕ)
+    → length f ≡ n → drop b W ≡ f ++ post → Complete (many n) W b f post
 many-complete n W b f post o e =
     let long : n ≤ length (f ++ post) = omega (arith, length-append f post) in
     record {

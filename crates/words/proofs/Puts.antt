@@ -87,7 +87,8 @@ module _ {d : List ℕ} {at : ℕ} (inside : at ≤ length d) where
   pub put-then : {ws vs d' d'' : List ℕ} {r r' : ℕ} → Put ws d at d' r → Put vs d' r d'' r' → Put (ws ++ vs) d at d'' r'
   put-then p q = as-put (rw append-assoc at (and-put (and-put at-place p) q))
 
-  pub put-room : {ws d' : List ℕ} {r : ℕ} → Put ws d at d' r → (vs : List ℕ) → at + length ws + length vs ≤ length d → r + length vs ≤ length d'
+  pub put-room : {ws d' : List ℕ} {r : ℕ} → Put ws d at d' r
+      → (vs : List ℕ) → at + length ws + length vs ≤ length d → r + length vs ≤ length d'
   put-room {ws} p vs h =
       let e : length (take at d) ≡ at = length-take-le at d inside in
       room (and-put at-place p) vs (rw (length-append, e) h)
@@ -199,7 +200,8 @@ pub turns-none : (f : ℕ → List ℕ) (d : List ℕ) (at : ℕ) → Put (inTur
 unfolding inTurn
 turns-none f d at = put-none d at
 
-module _ (f : ℕ → List ℕ) (n : ℕ) {d₀ d : List ℕ} {at i to : ℕ} (all : at + length (inTurn f n) ≤ length d₀) (so-far : Put (inTurn f i) d₀ at d to) where
+module _ (f : ℕ → List ℕ) (n : ℕ) {d₀ d : List ℕ} {at i to : ℕ}
+    (all : at + length (inTurn f n) ≤ length d₀) (so-far : Put (inTurn f i) d₀ at d to) where
   pub turn-fits : i < n → to + length (f i) ≤ length d
   turn-fits h = put-room (omega arith) so-far (f i) (omega (arith, turn-room f i n h))
 

@@ -2,7 +2,7 @@
 use mathlib.Core.Path.{_≡_, refl}
 use mathlib.Core.Bool.{Bool, true, false}
 use mathlib.Core.List.{List}
-use Prim.Native.Nat.{ℕ, _+_, _-_, _≤_, _<_}
+use Prim.Native.Nat.{ℕ, _+_, _≤_, _<_}
 use native.Mathlib.Omega.{arith}
 use lib.Dec.{ltb}
 use lib.ListN.{length, getD}
@@ -33,7 +33,8 @@ take-within false ws at h = h
 take-within true ws at h = go (ltb at (length ws)) refl
   where
     go : (t : Bool) → ltb at (length ws) ≡ t
-        → if_then_else_ {A = Took} t (record { word = Given (getD ws at 0); at = at + 1 }) (record { word = Absent; at = length ws + 1 }) .at ≤ length ws + 1
+        → if_then_else_ {A = Took} t (record { word = Given (getD ws at 0); at = at + 1 }) (record { word = Absent; at = length ws + 1 }) .at
+        ≤ length ws + 1
     go true e = omega (arith, ltb-true at (length ws) e)
     go false e = omega arith
 

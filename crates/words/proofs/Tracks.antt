@@ -64,7 +64,8 @@ many-reads : (n : ℕ) (ws : List ℕ) (base i : ℕ) → i ≤ length ws → (t
 unfolding skipAt
 many-reads n ws base i h false e =
     let le : n ≤ length ws - i = ltb-false (length ws - i) n e in
-    rw (le-ltb (length ws) i h, e, length-drop, le-leb n (length ws - i) le, le-leb (i + n) (length ws) (omega arith)) (cc (add-assoc base i n, drop-drop n i ws))
+    rw (le-ltb (length ws) i h, e, length-drop, le-leb n (length ws - i) le, le-leb (i + n) (length ws) (omega arith))
+    (cc (add-assoc base i n, drop-drop n i ws))
 many-reads n ws base i h true e =
     rw (le-ltb (length ws) i h, e, length-drop, lt-leb n (length ws - i) (ltb-true _ _ e), lt-leb (length ws + 1) (length ws) (omega arith))
 
@@ -75,7 +76,8 @@ many-sticks n ws i h = rw (lt-ltb (length ws) i h) (omega arith)
 pub many-tracks : (n : ℕ) (ws : List ℕ) (base i : ℕ) → Tracks (many n) ws base i (record { start = base + i; len = n }) (skipAt n ws i)
 many-tracks n ws base i = record { reads = λ h. many-reads n ws base i h (ltb (length ws - i) n) refl; sticks = many-sticks n ws i }
 
-module _ {K A F B G : Type 0} (k : Format A F) (key : A → K) (keyF : F → K) (l : K → Format B G) (ws : List ℕ) (base i : ℕ) (a : A) (j : ℕ) (c : B) (j′ : ℕ)
+module _ {K A F B G : Type 0} (k : Format A F) (key : A → K) (keyF : F → K) (l : K → Format B G)
+    (ws : List ℕ) (base i : ℕ) (a : A) (j : ℕ) (c : B) (j′ : ℕ)
     (s : Tracks k ws base i a j) (t : Tracks (l (key a)) ws base j c j′) where
   chain-reads : (u : Bool) → leb j (length ws) ≡ u
       → both {C = A × B} (if u then got a (base + j) (drop j ws) else short) (λ x. l (key x) .parse) (λ x y. (x, y)) ≡ outAt ws base (a, c) j′
@@ -95,7 +97,8 @@ pub join-tracks : {A F B G : Type 0} (k : Format A F) (l : Format B G) {ws : Lis
     → Tracks k ws base i a j → Tracks l ws base j c j′ → Tracks (join k l) ws base i (a, c) j′
 join-tracks k l {ws} {base} {i} {a} {j} {c} {j′} s t = chain-tracks k (λ _. tt {0}) (λ _. tt {0}) (λ _. l) ws base i a j c j′ s t
 
-pub recast-tracks : {A F B G : Type 0} (to : A → B) (from : B → A) (toF : F → G) (fromF : G → F) (k : Format A F) {ws : List ℕ} {base i : ℕ} {a : A} {j : ℕ}
+pub recast-tracks : {A F B G : Type 0} (to : A → B) (from : B → A) (toF : F → G) (fromF : G → F) (k : Format A F)
+    {ws : List ℕ} {base i : ℕ} {a : A} {j : ℕ}
     → Tracks k ws base i a j → Tracks (recast to from toF fromF k) ws base i (to a) j
 recast-tracks to from toF fromF k {ws} {base} {i} {a} {j} s =
     record { reads = λ h. ap (mapGot to) (s .reads h) ∙ map-out to ws base a j (leb j (length ws)); sticks = s .sticks }

@@ -8,15 +8,18 @@ use Rattle.standin.proofs.answer_block.Statement.{statement}
 use Rattle.standin.proofs.answer_block.Tie as tie
 
 abbrev Inv-loop : tie.InvT-loop
-Inv-loop bytes text₀ talk₀ taken₀ filled₀ text talk taken filled = (taken ≤ length bytes) × (filled ≤ length text) × (length text ≡ length text₀)
+Inv-loop bytes text₀ talk₀ taken₀ filled₀ text talk taken filled =
+    (taken ≤ length bytes) × (filled ≤ length text) × (length text ≡ length text₀)
 
 abbrev μ-loop : tie.MeasureT-loop
 μ-loop bytes text₀ talk₀ taken₀ filled₀ text talk taken filled = length bytes - taken
 
 -- what was taken is within the bytes, and what was said within the text
 record Within (c : tie.After-answer Inv-loop μ-loop) : Type 0 where
-  taken : c .before .before .before .before .before .loop .taken + c .answer .result .taken ≤ length (c .before .before .before .before .before .before .before .before .args .bytes .now)
-  said : c .before .before .before .before .before .loop .filled + c .answer .result .length ≤ length (c .before .before .before .before .before .loop .text)
+  taken : (let l = c .before .before .before .before .before in
+      l .loop .taken + c .answer .result .taken ≤ length (l .before .before .before .args .bytes .now))
+  said : (let l = c .before .before .before .before .before in
+      l .loop .filled + c .answer .result .length ≤ length (l .loop .text))
 
 within : (c : tie.After-answer Inv-loop μ-loop) → Within c
 within c =

@@ -5,7 +5,9 @@ use Rattle.standin.proofs.take_turn.Statement.{statement}
 use Rattle.standin.proofs.take_turn.Tie as tie
 
 slice-aggregate-answer-block : tie.Need-slice-aggregate-answer-block
-slice-aggregate-answer-block c = sym (length-take-le (c .before .before .before .args .have) (c .before .before .before .args .bytes .now) (c .before .before .before .pre))
+slice-aggregate-answer-block c =
+    let s = c .before .before .before in
+    sym (length-take-le (s .args .have) (s .args .bytes .now) (s .pre))
 
 slice-aggregate-write-all : tie.Need-slice-aggregate-write-all
 slice-aggregate-write-all c = sym (length-take-le (c .before .before .before .before .before .answer-block .result .filled) _ (search needs))

@@ -16,7 +16,8 @@ lent : tie.Need-slice-aggregate-write-all Inv-loop μ-loop
 lent c = said-lent _ _ _ _ _ _ (c .before .before .before .answer .ensures)
 
 -- what was taken is within the bytes
-within : (c : tie.After-answer Inv-loop μ-loop) → c .before .before .before .loop .at + c .answer .result .taken ≤ length (c .before .before .before .before .before .before .args .bytes .now)
+within : (c : tie.After-answer Inv-loop μ-loop)
+    → c .before .before .before .loop .at + c .answer .result .taken ≤ length (c .before .before .before .before .before .before .args .bytes .now)
 within c =
     let l = c .before .before .before in
     taken-rest _ _ (l .before .before .before .args .bytes .now) (l .loop .at) _ _ _ (c .answer .ensures) (l .loop .inv)

@@ -1,5 +1,4 @@
 use borrow.Author.Needs.{needs}
-use Rattle.words.proofs.Tests.{picks}
 use Rattle.layout.proofs.masks.one_if.Statement.{statement}
 use Rattle.layout.proofs.masks.one_if.Tie as tie
 
