@@ -15,6 +15,7 @@ use Rattle.state.specs.declared.State.{State}
 use Rattle.state.specs.declared.Mode.{Mode}
 use Rattle.state.specs.declared.Job.{Job}
 use Rattle.state.specs.declared.Job.the-variants.{Absent, Counted, Endless}
+use Rattle.state.specs.Fields.{withDrive}
 use Rattle.state.specs.Ranges.{isMeasure, jobOk, inRange}
 use Rattle.state.specs.Replies.{Result, refused, delivered, Unchanged}
 use Rattle.state.proofs.Delivery.{refused-unchanged, done, delivered-by, delivered-number}
@@ -92,5 +93,6 @@ unfolding revolved
 ranges-kept s g room h =
     revolution-by (λ x. T (inRange (x .reply .state))) s g room (λ _ _. h)
     (let p = parts s h in
-    let driven = drive-set s p (s .mode) (s .running) (jobAfter (s .job)) (p .running) (p .checks) (job-kept (s .mode) (s .job) (p .job)) in
-    whole _ (counter-set _ driven (risen (s .counter))))
+    let job = jobAfter (s .job) in
+    let driven = drive-set s p (s .mode) (s .running) job (p .running) (p .checks) (job-kept (s .mode) (s .job) (p .job)) in
+    whole _ (counter-set (withDrive s (s .mode) (s .running) job) driven (risen (s .counter))))
