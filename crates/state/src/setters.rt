@@ -1,4 +1,4 @@
-// The state with some of its fields set. No other code writes a state out: a new field is added to `State` and to `fresh`.
+// The state with some of its fields set. Only `fresh` writes a state out, so a new field needs no line here.
 ghost use mathlib.Core.Path.{_≡_};
 ghost use Rattle.state.specs.Fields.{withConfig, withPlans, withDrive, withPort, withCounter};
 use crate::Job;
