@@ -14,9 +14,9 @@ use Rattle.layout.specs.Layout.{headLength}
 use Rattle.reader.specs.declared.SectorReading.{SectorReading}
 use Rattle.reader.specs.declared.Reading.{Reading}
 use Rattle.reader.specs.Sectors.{sector}
-use Rattle.reader.specs.Readings.{maskIn, countIn, headRefusal, Body, body, refusedReading, acceptedReading, ended, bodyOf, readOf}
+use Rattle.reader.specs.Readings.{maskIn, countIn, headRefusal, Body, sectorsIn, body, refusedReading, acceptedReading, ended, bodyOf, readOf}
 use Rattle.reader.proofs.Heads.{GoodHead, good-head}
-use Rattle.reader.proofs.Bodies.{body-lawful}
+use Rattle.reader.proofs.Bodies.{body-lawful, sectors-ok}
 use Rattle.reader.proofs.Readouts.{refused-head, read-whole}
 
 -- what the body's format finds behind the first three words
@@ -96,7 +96,7 @@ module _ {ws rest : List ℕ} (s : Parsed ws rest) where
   body-sound = subst (SoundOf (body (maskIn ws) (countIn ws)) ws headLength) (s .parsed) (body-lawful (maskIn ws) (countIn ws) .sound ws headLength)
 
   -- as many sectors as the third word says
-  pub many-sectors : length (s .value .1 .1 .1 .0) ≡ countIn ws
+  pub many-sectors : length (sectorsIn (s .value)) ≡ countIn ws
   many-sectors =
-      sym (length-map (s .value .1 .1 .1 .0) (sector (maskIn ws) .strip ws))
-      ∙ all-length (sector (maskIn ws) .ok) (countIn ws) _ (body-sound .fits .1 .1 .1 .0)
+      sym (length-map (sectorsIn (s .value)) (sector (maskIn ws) .strip ws))
+      ∙ all-length (sector (maskIn ws) .ok) (countIn ws) _ (sectors-ok (maskIn ws) (countIn ws) _ (body-sound .fits))

@@ -10,18 +10,20 @@ use borrow.Author.Tests.{le-leb, lt-leb}
 use Rattle.words.specs.declared.Word.the-variants.{Given}
 use Rattle.words.specs.declared.Took.{Took}
 use Rattle.words.specs.Bits.{bit}
+use Rattle.words.specs.Lists.{Each}
 use Rattle.words.specs.Parse.{Got, short, got}
 use Rattle.words.specs.Places.{takeAt}
-use Rattle.words.specs.Format.{Format, times}
+use Rattle.words.specs.Format.{Format, AllOk, times}
 use Rattle.words.proofs.Lawful.{Lawful, SoundOf, KeptOf}
 use Rattle.words.proofs.Extends.{Extends, nothing-extends, optional-extends, join-extends, times-extends}
 use Rattle.words.proofs.Tracks.{Tracks, outAt, in-out, past-out, nothing-tracks, optional-tracks, join-tracks}
 use Rattle.layout.specs.Bits as bits
+use Rattle.layout.specs.Fields.{SectorFields}
 use Rattle.layout.specs.Layout.{headLength}
 use Rattle.reader.specs.declared.SectorReading.{SectorReading}
 use Rattle.reader.specs.declared.Sectors.{Sectors}
 use Rattle.reader.specs.Sectors.{sector}
-use Rattle.reader.specs.Readings.{Body, body, refusedReading, ended}
+use Rattle.reader.specs.Readings.{Body, sectorsIn, body, refusedReading, ended}
 use Rattle.reader.specs.Places.{valueOf, placeOf, fromPlace, sectorsOf}
 use Rattle.reader.proofs.SectorPlaces.{sector-extends}
 
@@ -68,6 +70,13 @@ pub record BodyWalk (mask count : ℕ) (ws : List ℕ) : Type 0 where
   pub is-found : found ≡ sectorsOf ws (fromPlace (times count (sector mask)) ws (layer .at))
   pub is-high : high ≡ takeAt (bit mask bits.senstat) ws (found .at)
   pub is-low : low ≡ takeAt (bit mask bits.senstat) ws (high .at)
+
+-- of the whole body, what is so of its sectors
+pub sectors-ok : (mask count : ℕ) (b : Body SectorFields) → body mask count .ok b → AllOk (sector mask .ok) count (sectorsIn b)
+sectors-ok mask count b o = o .1 .1 .1 .0
+
+pub sectors-inside : (mask count n : ℕ) (a : Body SectorReading) → body mask count .inside n a → Each (sector mask .inside n) (sectorsIn a)
+sectors-inside mask count n a i = i .1 .1 .1 .0
 
 module _ (mask count : ℕ) (ws : List ℕ) (long : headLength ≤ length ws) where
   -- the body by places, and the place behind it

@@ -10,7 +10,8 @@ use Rattle.words.proofs.Each.{each-map}
 use Rattle.layout.specs.Fields.{SectorFields, Fields}
 use Rattle.layout.specs.Layout.{layoutSector, contour, layout, SectorFits, Fits, Acceptable, headLength, oneLayer}
 use Rattle.reader.specs.Sectors.{sector}
-use Rattle.reader.specs.Readings.{maskIn, countIn, Body, body, infoIn}
+use Rattle.reader.specs.Readings.{maskIn, countIn, Body, sectorsIn, body, infoIn}
+use Rattle.reader.proofs.Bodies.{sectors-ok}
 use Rattle.reader.proofs.Heads.{GoodHead, three}
 use Rattle.reader.proofs.Accepted.{all-length}
 
@@ -25,7 +26,7 @@ fieldsOf mask b =
       sent = b .0;
       counter = b .1 .0;
       layer = b .1 .1 .0;
-      sectors = b .1 .1 .1 .0;
+      sectors = sectorsIn b;
       high = b .1 .1 .1 .1 .0;
       low = b .1 .1 .1 .1 .1 .0;
     }
@@ -72,7 +73,7 @@ body-fits count f o =
       sent = o .0;
       counter = o .1 .0;
       layer = o .1 .1 .0;
-      sectors = each-map (sector-fits (f .mask)) (all-each count (f .sectors) (o .1 .1 .1 .0));
+      sectors = each-map (sector-fits (f .mask)) (all-each count (f .sectors) (sectors-ok (f .mask) count (bodyFields f) o));
       high = o .1 .1 .1 .1 .0;
       low = o .1 .1 .1 .1 .1 .0;
     }
@@ -82,8 +83,8 @@ body-ok f w = (w .sent, (w .counter, (w .layer, (each-all (each-map (sector-ok (
 
 -- behind a head that passes
 module _ (ws : List ℕ) (head : GoodHead ws) (b : Body SectorFields) (ok : body (maskIn ws) (countIn ws) .ok b) where
-  as-many : length (b .1 .1 .1 .0) ≡ countIn ws
-  as-many = all-length (sector (maskIn ws) .ok) (countIn ws) (b .1 .1 .1 .0) (ok .1 .1 .1 .0)
+  as-many : length (sectorsIn b) ≡ countIn ws
+  as-many = all-length (sector (maskIn ws) .ok) (countIn ws) (sectorsIn b) (sectors-ok (maskIn ws) (countIn ws) b ok)
 
   pub acceptable : Acceptable (fieldsOf (maskIn ws) b)
   acceptable =
@@ -99,6 +100,6 @@ module _ (ws : List ℕ) (head : GoodHead ws) (b : Body SectorFields) (ok : body
   pub laid : (more rest : List ℕ) → drop headLength ws ++ more ≡ body (maskIn ws) (countIn ws) .put b ++ rest
       → ws ++ more ≡ layout (fieldsOf (maskIn ws) b) ++ rest
   laid more rest e =
-      let third : infoIn ws ≡ oneLayer + length (b .1 .1 .1 .0) = head .third ∙ ap (λ (n : ℕ). oneLayer + n) (sym as-many) in
+      let third : infoIn ws ≡ oneLayer + length (sectorsIn b) = head .third ∙ ap (λ (n : ℕ). oneLayer + n) (sym as-many) in
       let behind = e ∙ ap (λ (l : List ℕ). l ++ rest) (sym (rest-put (maskIn ws) (countIn ws) (fieldsOf (maskIn ws) b))) in
       ap (λ (l : List ℕ). l ++ more) (three ws (head .long)) ∙ (λ j. head .first j ∷ maskIn ws ∷ third j ∷ behind j)

@@ -23,6 +23,7 @@ use Rattle.reader.specs.Sectors.{sector, blankSector}
 use Rattle.reader.specs.Readings.{maskIn, countIn, readOf}
 use Rattle.reader.specs.Stretches.{stretchOf}
 use Rattle.reader.specs.Demands.{NoPoints}
+use Rattle.reader.proofs.Bodies.{sectors-ok}
 use Rattle.reader.proofs.Accepted.{body-sound}
 use Rattle.reader.proofs.PointPlaces.{whole, found, read-there, at-place, in-words}
 
@@ -43,7 +44,7 @@ module _ (ws : List ℕ) (place : ℕ) (here : place < readOf ws .count) where
   ok : sector (maskIn ws) .ok (sector (maskIn ws) .strip ws at)
   ok =
       let all : AllOk (sector (maskIn ws) .ok) (countIn ws) (map (sector (maskIn ws) .strip ws) (found ws place here)) =
-      body-sound (whole ws place here) .fits .1 .1 .1 .0 in
+      sectors-ok (maskIn ws) (countIn ws) _ (body-sound (whole ws place here) .fits) in
       rw (at-place ws place here) (each-at blankSector place (all-mapped _ _ (countIn ws) (found ws place here) all) (read-there ws place here))
 
   point-words : at .len ≡ numberOf (at .points) * pointWidth (maskIn ws)

@@ -13,9 +13,9 @@ use Rattle.layout.specs.Layout.{headLength}
 use Rattle.reader.specs.declared.SectorReading.{SectorReading}
 use Rattle.reader.specs.declared.Reading.{Reading}
 use Rattle.reader.specs.Sectors.{blankSector}
-use Rattle.reader.specs.Readings.{maskIn, countIn, body, readOf}
+use Rattle.reader.specs.Readings.{maskIn, countIn, sectorsIn, body, readOf}
 use Rattle.reader.specs.Stretches.{stretchRefusalOf, stretchOf, stretchStart, StretchSays}
-use Rattle.reader.proofs.Bodies.{body-lawful}
+use Rattle.reader.proofs.Bodies.{body-lawful, sectors-inside}
 use Rattle.reader.proofs.Accepted.{Accepted, accepted, has-sector, many-sectors}
 
 -- the reading has a sector at the place
@@ -24,7 +24,7 @@ module _ (ws : List ℕ) (place : ℕ) (here : place < readOf ws .count) where
   whole = accepted ws (has-sector ws (omega arith))
 
   abbrev pub found : List SectorReading
-  found = whole .value .1 .1 .1 .0
+  found = sectorsIn (whole .value)
 
   below : place < countIn ws
   below = rw (whole .reading) at here
@@ -45,7 +45,7 @@ module _ (ws : List ℕ) (place : ℕ) (here : place < readOf ws .count) where
       let all : body (maskIn ws) (countIn ws) .inside n (whole .value) =
       subst (InsideOf (body (maskIn ws) (countIn ws)) n) (whole .parsed) (body-lawful (maskIn ws) (countIn ws) .within headLength (drop headLength ws)) in
       let e : getD found place blankSector .start + getD found place blankSector .len ≤ n =
-      each-at blankSector place (all .1 .1 .1 .0) read-there .1 .1 .1 .1 .1 .0 in
+      each-at blankSector place (sectors-inside (maskIn ws) (countIn ws) n (whole .value) all) read-there .1 .1 .1 .1 .1 .0 in
       rw at-place (omega (arith, length-drop headLength ws, whole .head .long))
 
 -- the same of what a reader holds

@@ -16,7 +16,7 @@ use Rattle.layout.specs.Layout.{layout, Acceptable, headLength, oneLayer}
 use Rattle.reader.specs.declared.SectorReading.{SectorReading}
 use Rattle.reader.specs.declared.Reading.{Reading}
 use Rattle.reader.specs.Sectors.{sector, blankSector}
-use Rattle.reader.specs.Readings.{maskIn, countIn, infoOk, headRefusal, Body, body, acceptedReading, ended, readOf}
+use Rattle.reader.specs.Readings.{maskIn, countIn, infoOk, headRefusal, Body, sectorsIn, body, acceptedReading, ended, readOf}
 use Rattle.reader.specs.Stretches.{fieldsIn}
 use Rattle.reader.specs.Demands.{AcceptsExactly, PutTogether, ReadsBack, OneReading}
 use Rattle.reader.proofs.Heads.{passed}
@@ -25,9 +25,9 @@ use Rattle.reader.proofs.Accepted.{Parsed, Accepted, by-body, accepted,
 use Rattle.reader.proofs.Laid.{bodyFields, fieldsOf, rest-put, body-ok, acceptable, laid}
 
 -- the fields of an accepted reading are what its format strips
-fields-strip : (ws : List ℕ) (mask count : ℕ) (a : Body SectorReading) → length (a .1 .1 .1 .0) ≡ count
+fields-strip : (ws : List ℕ) (mask count : ℕ) (a : Body SectorReading) → length (sectorsIn a) ≡ count
     → fieldsIn ws (acceptedReading mask count a) ≡ fieldsOf mask (body mask count .strip ws a)
-fields-strip ws mask count a h = rw (take-at (a .1 .1 .1 .0) (replicate (8 - length (a .1 .1 .1 .0)) blankSector) count h)
+fields-strip ws mask count a h = rw (take-at (sectorsIn a) (replicate (8 - length (sectorsIn a)) blankSector) count h)
 
 -- what is read is laid out, before the words that are left
 
@@ -82,8 +82,8 @@ module _ (f : Fields) (w : Acceptable f) (more : List ℕ) where
   same-fields : fieldsIn (layout f ++ more) (acceptedReading m n (read-back .value)) ≡ f
   same-fields =
       let v = read-back .value in
-      let k : length (v .1 .1 .1 .0) ≡ n =
-      sym (length-map (v .1 .1 .1 .0) (sector m .strip (layout f ++ more))) ∙ ap (λ (t : Body SectorFields). length (t .1 .1 .1 .0)) (read-back .same) in
+      let k : length (sectorsIn v) ≡ n =
+      sym (length-map (sectorsIn v) (sector m .strip (layout f ++ more))) ∙ ap (λ (t : Body SectorFields). length (sectorsIn t)) (read-back .same) in
       fields-strip (layout f ++ more) m n v k ∙ ap (fieldsOf m) (read-back .same)
 
 pub reads-back : ReadsBack

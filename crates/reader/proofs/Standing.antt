@@ -15,7 +15,7 @@ use Rattle.layout.specs.Fields.{SectorFields}
 use Rattle.layout.specs.Layout.{headLength, opening}
 use Rattle.reader.specs.declared.SectorReading.{SectorReading}
 use Rattle.reader.specs.Sectors.{sector, blankSector}
-use Rattle.reader.specs.Readings.{maskIn, countIn, body, acceptedReading, readOf}
+use Rattle.reader.specs.Readings.{maskIn, countIn, sectorsIn, body, acceptedReading, readOf}
 use Rattle.reader.specs.Stretches.{sectorIn, wordsBefore, stretchStart}
 use Rattle.reader.specs.Demands.{StandsAtPlace}
 use Rattle.reader.proofs.Bodies.{body-lawful}
@@ -56,7 +56,7 @@ long a b c behind s = simp length-append (omega arith)
 -- of an accepted reading
 module _ (ws : List ℕ) (s : Accepted ws) (place : ℕ) where
   abbrev sectors : List SectorReading
-  sectors = s .value .1 .1 .1 .0
+  sectors = sectorsIn (s .value)
 
   placed : place < length sectors
       → (let r = acceptedReading (maskIn ws) (countIn ws) (s .value) in

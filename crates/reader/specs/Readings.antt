@@ -49,6 +49,11 @@ headRefusal ws = if not (begins ws) then 12 else if not (formed ws) then 13 else
 abbrev pub Body : Type 0 → Type 0
 Body S = Word × (Word × (Word × (List S × (Word × (Word × Unit {0})))))
 
+-- the sectors of it
+abbrev pub sectorsIn : {S : Type 0} → Body S → List S
+sectorsIn b = b .1 .1 .1 .0
+
+-- as a format
 abbrev pub body : ℕ → ℕ → Format (Body SectorReading) (Body SectorFields)
 body mask count =
     optional (bit mask bits.sent) λ sent.
@@ -87,7 +92,7 @@ acceptedReading mask count a =
       counter = a .1 .0;
       layer = a .1 .1 .0;
       count = count;
-      sectors = padded (a .1 .1 .1 .0);
+      sectors = padded (sectorsIn a);
       high = a .1 .1 .1 .1 .0;
       low = a .1 .1 .1 .1 .1 .0;
     }

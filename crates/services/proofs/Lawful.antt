@@ -3,7 +3,7 @@
 use mathlib.Core.Path.{_≡_, refl, sym, ap}
 use mathlib.Core.Bool.{Bool, true, false, _||_}
 use mathlib.Core.List.{List, [], _∷_, _++_}
-use Prim.Native.Nat.{ℕ, zero, suc, _+_, _/_, _%_, _≤_}
+use Prim.Native.Nat.{ℕ, zero, suc, _+_, _%_, _≤_}
 use native.Mathlib.Omega.{arith}
 use lib.Dec.{T, ltb, leb, eqb, leb→le, le→leb, eqb→eq}
 use lib.ListN.{length, take, length-set}
@@ -11,7 +11,8 @@ use borrow.Author.Tests.{ne-eqb, lt-ltb, eqb-false, not-true}
 use Rattle.units.specs.Directions.{circle}
 use Rattle.words.specs.Choice.{if_then_else_}
 use Rattle.words.proofs.Tests.{and-l, and-r, and-both, holds}
-use Rattle.layout.specs.Masks.{maskOk, maskLimit, cleared}
+use Rattle.layout.specs.Masks.{maskOk, cleared}
+use Rattle.layout.proofs.MaskTests.{cleared-ok}
 use Rattle.plan.specs.declared.Plan.{Plan}
 use Rattle.plan.specs.Sectors.{sector, isFunction, entryInRange, planInRange}
 use Rattle.plan.specs.Checks.{measureError}
@@ -74,15 +75,6 @@ module _ {silent : Bool} {changes : List Part} {Asked : Type 0} (code : ℕ) (s 
       → (Asked → Parts s → T (runningOk m r) × T (checksOk m (s .working) (s .step .0) r) × T (jobOk m j))
       → Fine silent code changes Asked s (answer (withDrive s m r j) ws)
   sets-drive m r j o h = sets (withDrive s m r j) o (λ h. h) (λ q p. drive-set s p m r j (h q p .0) (h q p .1) (h q p .2))
-
--- the cleared mask of a new job
-mask-ok : (mask : ℕ) → startsJob mask ≡ true → T (maskOk (cleared mask))
-unfolding maskOk
-mask-ok mask e =
-    let n : eqb (cleared mask) 0 ≡ false = not-true (eqb (cleared mask) 0) e in
-    let a : mask % maskLimit / 16384 % 2 ≡ 0 = omega arith in
-    let b : mask % maskLimit / 32768 % 2 ≡ 0 = omega arith in
-    rw (n, a, b) tt
 
 -- the function that SET_FUNCTION sets is one that an entry may have
 function-ok : (f : ℕ) → T (eqb (functionSet f) 0 || isFunction (functionSet f))
@@ -197,7 +189,7 @@ module _ {Asked : Type 0} (s : State) (code : ℕ) where
       go : (b : Bool) → startsJob mask ≡ b → Fine b code (part.job ∷ []) Asked s (if b then answer after [] else answer s (code ∷ []))
       go true e =
           sets-drive code s [] refl tt (s .mode) (s .running) (newJob number (cleared mask)) (λ _. refl)
-          (λ q p. (p .running, p .checks, job (l q) (m q) (eqb number 0) refl (mask-ok mask e)))
+          (λ q p. (p .running, p .checks, job (l q) (m q) (eqb number 0) refl (cleared-ok mask (not-true (eqb (cleared mask) 0) e))))
       go false e = stays code s (code ∷ []) refl tt refl
 
   pub cancel-fine : Fine false code (part.job ∷ []) Asked s (cancelProfile s code)
