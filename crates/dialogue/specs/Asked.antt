@@ -1,4 +1,5 @@
--- What the inner function of a talk says: the line of a request over the front of the text where it has room, and the next state.
+-- Technical: no rule stands here. What the inner function of a talk says: the line of a request over the front of the text where it has
+-- room, and the next state.
 use mathlib.Core.Path.{_≡_}
 use mathlib.Core.List.{List}
 use Prim.Native.Nat.{ℕ}

@@ -1,4 +1,4 @@
-// A line of the program's output.
+// A line of the program's output (rule 7.11).
 ghost use mathlib.Core.Path.{_≡_};
 ghost use Prim.Native.Nat.{_+_, _<_, _≤_};
 ghost use mathlib.Core.List.{[], _∷_};

@@ -1,4 +1,4 @@
-// One record of a talk, answered with its line.
+// One record of a talk, answered with its line (rule 7.10).
 ghost use mathlib.Core.Path.{_≡_};
 ghost use Rattle.dialogue.specs.Talks.{AnswerSays};
 ghost use Rattle.dialogue.specs.Asked.{Replied};

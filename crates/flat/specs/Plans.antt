@@ -6,7 +6,7 @@ use Rattle.plan.specs.declared.Sector.{Sector}
 use Rattle.plan.specs.declared.Plan.{Plan}
 use Rattle.plan.specs.Sectors.{sector}
 
--- entry k: function and stop are words 2k and 2k + 1, 0 where there are none
+-- entry k: function and stop are words 2k and 2k + 1, 0 where there are none (rule 5.9)
 abbrev pub entryOf : List ℕ → ℕ → Sector
 entryOf ws k = sector (getD ws (2 * k) 0) (getD ws (2 * k + 1) 0)
 

@@ -1,4 +1,4 @@
--- What the call hands back: the count of the result's reply, and its words over the buffer that was lent.
+-- Rule 5.9: what the call hands back: the count of the result's reply, and its words over the buffer that was lent.
 use mathlib.Core.Path.{_≡_}
 use mathlib.Core.List.{List}
 use Prim.Native.Nat.{ℕ}
@@ -14,7 +14,7 @@ pub record Sent (count : ℕ) (before after : List ℕ) (x : Result) : Type 0 wh
   pub counted : count ≡ x .reply .count
   pub buffer : after ≡ over (x .written) before
 
--- the contract of `slackjib_profile`: a revolution of a sensor that measures with the plan of these words
+-- the contract of `slackjib_profile`: a revolution of a sensor that measures with the plan of these words (rule 5.9)
 abbrev pub ProfileSays : List ℕ → ℕ → ℕ → ℕ → Scan → List ℕ → List ℕ → ℕ → Type 0
 ProfileSays plan step running mask g before after count =
     Sent count before after (revolutionOf (measuring (planOf plan) step running mask) g (length before))

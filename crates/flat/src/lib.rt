@@ -12,7 +12,7 @@ use state::State;
 use units::Angle;
 use units::Time;
 
-// Entry k of a plan: its function and its stop are words 2k and 2k + 1, 0 where there are none.
+// Entry k of a plan: its function and its stop are words 2k and 2k + 1, 0 where there are none (rule 5.9).
 fn entry_of(plan: &[u16], k: u8) -> Sector
     ensures { λ r. ⌜ r ≡ entryOf (now (plan .entry)) k ⌝ }
 {
@@ -42,7 +42,7 @@ pub fn plan_of(plan: &[u16]) -> Plan
     }
 }
 
-// A sensor that measures with that plan, with a job of one profile.
+// A sensor that measures with that plan, with a job of one profile (rule 5.9).
 fn measuring(plan: &[u16], step: Angle, running: u16, mask: u16) -> State
     ensures { λ r. ⌜ r ≡ Fresh·measuring (planOf (now (plan .entry))) (step .0) running mask ⌝ }
 {
@@ -58,7 +58,7 @@ fn measuring(plan: &[u16], step: Angle, running: u16, mask: u16) -> State
     state::with_drive(planned, Mode::Measure, running, job)
 }
 
-// The profile of one revolution into the buffer that is lent; how many words it has, 0 where the call is refused.
+// The profile of one revolution into the buffer that is lent; how many words it has, 0 where the call is refused (rule 5.9).
 #[no_mangle]
 pub extern "C" fn slackjib_profile(
     plan: &[u16],

@@ -1,11 +1,10 @@
--- Document 01, 'A revolution and its profile': what a profile carries, for the writer and the reader alike. Each word is given, or
+-- Rules, section 5: what a profile carries, for the writer and the reader alike. Each word is given, or
 -- absent where the mask leaves it out; a sector's points are a list of words.
 use mathlib.Core.List.{List}
 use Prim.Native.Nat.{ℕ}
 use Rattle.words.specs.declared.Word.{Word}
 
--- bits 3 to 12: "3 number, 4 step, 5 points, 6 time of its first shot, 7 first direction; for each point 8 distance, 9 direction,
--- 10 echo; then 11 time of its last shot, 12 last direction"
+-- a sector: the words of bits 3 to 7, those of its points, and the words of bits 11 and 12 (rule 5.5)
 pub record SectorFields : Type 0 where
   pub number : Word
   pub step : Word
@@ -16,7 +15,7 @@ pub record SectorFields : Type 0 where
   pub tend : Word
   pub enddir : Word
 
--- "0 sent [..], 1 counter, [..] 2 layer", the sectors, "Once at the end: 13 SENSTAT", high word and low word
+-- a profile: its mask, the words of bits 0 to 2, the sectors, and the two words of bit 13 (rules 5.4 and 5.5)
 pub record Fields : Type 0 where
   pub mask : ℕ
   pub sent : Word

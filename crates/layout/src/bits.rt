@@ -1,4 +1,4 @@
-// The bits of a mask by what they select: the same names as in the specs.
+// The bits of a mask by what they select: the same names as in the specs (rule 5.5).
 
 // Once, before the sectors.
 pub const SENT: u32 = 0;

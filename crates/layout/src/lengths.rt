@@ -6,7 +6,7 @@ use crate::bits;
 use crate::masks::one_if;
 use crate::masks::point_width;
 
-// The words of a profile of so many sectors and points.
+// The words of a profile of so many sectors and points (rule 5.8).
 pub fn profile_length(mask: u32, sectors: u16, points: u16) -> usize
     ensures { λ r. ⌜ r ≡ profileLength mask sectors points ⌝ }
 {

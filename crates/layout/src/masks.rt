@@ -7,7 +7,7 @@ ghost use Rattle.layout.specs.Masks.{maskOk, pointWidth, uncounted};
 use crate::bits;
 use words::has_bit;
 
-// A mask that a profile may have.
+// A mask that a profile may have (rule 2.7).
 pub fn mask_ok(mask: u32) -> bool
     ensures { λ r. ⌜ r ≡ maskOk mask ⌝ }
 {
@@ -30,14 +30,14 @@ pub(crate) fn one_if(mask: u32, k: u32) -> u16
     0
 }
 
-// The words of one point.
+// The words of one point (rule 5.6).
 pub fn point_width(mask: u32) -> u16
     ensures { λ r. ⌜ r ≡ pointWidth mask ⌝ }
 {
     one_if(mask, bits::DISTANCE) + one_if(mask, bits::DIRECTION) + one_if(mask, bits::ECHO)
 }
 
-// Points have words, and their number has none.
+// Points have words, and their number has none (rule 5.12).
 pub fn is_uncounted(mask: u32) -> bool
     ensures { λ r. ⌜ r ≡ uncounted mask ⌝ }
 {

@@ -1,4 +1,4 @@
--- Document 01, 'Bench figures': the P rows of the normal plan. Proved in proofs/NormalRows.antt.
+-- Rules, section 7: the P rows of the normal plan. Proved in proofs/NormalRows.antt.
 use mathlib.Core.List.{List, [], _∷_}
 use Prim.Native.Nat.{ℕ}
 use Rattle.words.specs.Rows.{Row, Shown}
@@ -7,22 +7,22 @@ use Rattle.plan.specs.declared.Plan.{Plan}
 use Rattle.plan.specs.Sectors.{sector, stopOf, filled}
 use Rattle.normal.specs.NormalForm.{normalisedOf}
 
--- the entries of a plan, function and stop of each
+-- the entries of a plan, function and stop of each (rule 7.9)
 abbrev pub entries : List Sector → List ℕ
 entries [] = []
 entries (s ∷ ss) = s .function ∷ stopOf s ∷ entries ss
 
--- the number for no of the call, and with it the entries of the plan that it hands back
+-- the number for no of the call, and with it the entries of the plan that it hands back (rule 7.1)
 abbrev pub refusalOf : Plan → ℕ → ℕ
 refusalOf p step = normalisedOf p step .refusal
 
 abbrev pub answerOf : List Sector → ℕ → List ℕ
 answerOf ss step = refusalOf (filled ss) step ∷ entries (normalisedOf (filled ss) step .plan .sectors)
 
--- the rows, for any plan p
+-- the rows, for any plan p (rules 7.1 and 7.9)
 abbrev pub normalRows : Plan → List Row
 normalRows p =
-    -- steps 7 and 72 get 9; 64 and 1 are taken
+    -- steps 7 and 72 get 9; 64 and 1 do not (rule 7.1)
     record {
       value =
           refusalOf p 7
@@ -32,7 +32,7 @@ normalRows p =
           ∷ [];
       figure = 9 ∷ 9 ∷ 0 ∷ 0 ∷ [];
     }
-    -- at step 8, (3,1000), (3,2000), (1,3000) becomes (3,2000), (1,3000); (1,1000), (3,2000), (1,3000) stays
+    -- at step 8: two neighbours of function 3 become one, with the later stop; functions 1, 3, 1 stay three (rule 7.9)
     ∷ record {
       value = answerOf (sector 3 1000 ∷ sector 3 2000 ∷ sector 1 3000 ∷ []) 8;
       figure = 0 ∷ 3 ∷ 2000 ∷ 1 ∷ 3000 ∷ 0 ∷ 0 ∷ 0 ∷ 0 ∷ 0 ∷ 0 ∷ 0 ∷ 0 ∷ 0 ∷ 0 ∷ 0 ∷ 0 ∷ [];

@@ -13,7 +13,7 @@ use plan::unused;
 use plan::whole_steps;
 use units::Angle;
 
-// A plan of zeros.
+// A plan of zeros (rule 6.2).
 fn zeros() -> Plan
     ensures { λ r. ⌜ r ≡ filled [] ⌝ }
 {
@@ -22,7 +22,7 @@ fn zeros() -> Plan
     }
 }
 
-// The active sectors, without each one whose next neighbour has the same function: the later stop is kept.
+// The active sectors, without each one whose next neighbour has the same function: the later stop is kept (rule 3.10).
 fn join(plan: Plan) -> Plan
     ensures { λ r. ⌜ r ≡ normalPlan plan ⌝ }
 {
@@ -46,7 +46,7 @@ fn join(plan: Plan) -> Plan
     Plan { sectors: out }
 }
 
-// The first number for no that a plan and a step call for, 0 for none.
+// The first number for no that a plan and a step call for, 0 for none (rule 6.1).
 fn plan_refusal(plan: Plan, step: Angle) -> u16
     ensures { λ r. ⌜ r ≡ planRefusal plan (step .0) ⌝ }
 {
@@ -65,7 +65,7 @@ fn plan_refusal(plan: Plan, step: Angle) -> u16
     0
 }
 
-// The normal plan of a plan that is valid for the step; else the number for no.
+// The normal plan of a plan that is valid for the step; else the number for no (rule 3.11).
 pub fn normal_plan(plan: Plan, step: Angle) -> Normalised
     ensures { λ r. ⌜ NormalPlanSays plan (step .0) r ⌝ }
 {

@@ -1,4 +1,4 @@
--- Document 01, TRANS_MEASURE: the four checks, in their order, of a plan, a step and a running speed.
+-- Rule 4.18: the four checks, in their order, of a plan, a step and a running speed.
 use mathlib.Core.Bool.{Bool, not, _&&_, _||_}
 use Prim.Native.Nat.{ℕ, _*_}
 use lib.Dec.{ltb, eqb}
@@ -10,16 +10,16 @@ use Rattle.plan.specs.Sectors.{activeOf}
 use Rattle.plan.specs.Validity.{increases, multiples}
 use Rattle.plan.specs.Shots.{arcs, shotsWith}
 
--- functions 3 and 4
+-- functions 3 and 4 (rule 3.2)
 abbrev pub isLit : ℕ → Bool
 isLit f = eqb f 3 || eqb f 4
 
--- the shots of functions 3 and 4 in one revolution
+-- the shots of functions 3 and 4 in one revolution (rule 4.18)
 unfoldable pub litShots : Plan → ℕ → ℕ
 litShots p step = shotsWith isLit (arcs step (activeOf p))
 
--- "3 if the plan has no active sector or its stops don't increase; 4 if a stop is no multiple of the step;
--- 1 if running speed × N > 14400; 2 if running speed × shots of functions 3 and 4 > 10800"; 0 for none
+-- in this order: no active sector, or stops that do not rise; a stop between two steps; too many shots a second; too many lit ones; 0 where
+-- none is so (rule 4.18)
 unfoldable pub measureError : Plan → ℕ → ℕ → ℕ
 measureError p step speed =
     if not (some (activeOf p) && increases (activeOf p)) then 3 else

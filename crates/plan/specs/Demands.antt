@@ -15,15 +15,15 @@ use Rattle.plan.specs.Validity.{ValidPlan}
 use Rattle.plan.specs.Shots.{Shot, lastStop, arcs, noArc, sweep, runOf}
 use Rattle.plan.specs.Checks.{isLit, litShots}
 
--- how many active sectors a plan has
+-- how many active sectors a plan has (rule 3.1)
 abbrev pub actives : Plan → ℕ
 actives p = length (activeOf p)
 
--- what stands where a run has no shot
+-- what stands where a run has no shot (rule 3.4)
 abbrev pub noShot : Shot
 noShot = record { direction = 0; function = 0 }
 
--- the function towards a direction: of the first sector whose stop does not lie before it; past the last stop, of sector 0
+-- the function towards a direction: of the first sector whose stop does not lie before it; past the last stop, of sector 0 (rule 3.5)
 abbrev pub towards : ℕ → ℕ → List Sector → ℕ
 towards direction function₀ [] = function₀
 towards direction function₀ (s ∷ ss) = if leb direction (stopOf s) then s .function else towards direction function₀ ss
@@ -32,16 +32,16 @@ abbrev pub functionOf : ℕ → List Sector → ℕ
 functionOf direction [] = 0
 functionOf direction (s ∷ ss) = towards direction (s .function) (s ∷ ss)
 
--- the direction of shot k: k + 1 steps after the last active stop
+-- the direction of shot k: k + 1 steps after the last active stop (rule 3.5)
 abbrev pub directionOf : ℕ → ℕ → List Sector → ℕ
 directionOf step k ss = stepsPast step (k + 1) (lastStop 0 ss)
 
--- the direction of an arc's last shot
+-- the direction of an arc's last shot (rule 3.5)
 abbrev pub endOf : ℕ → Arc → ℕ
 endOf step a = stepsPast step (a .shots - 1) (a .first .0)
 
--- Of a valid plan: one revolution has N shots; shot k has this direction and this function; the arcs' shots add up to N, and the last
--- shot of each arc is at its last direction, the sector's stop.
+-- Of a valid plan: one revolution has N shots; shot k has this direction and this function; the arcs' shots add up to N, and the last shot
+-- of each arc is at its last direction, the sector's stop (rules 3.4 to 3.6)
 pub record RunsRound (step : ℕ) (p : Plan) : Type 0 where
   pub long : length (runOf step p) ≡ revolutionShots step
   pub shot : (k : ℕ) → k < revolutionShots step
@@ -53,8 +53,8 @@ pub record RunsRound (step : ℕ) (p : Plan) : Type 0 where
 abbrev pub Revolution : Type 0
 Revolution = (step : ℕ) → T (isStep step) → (p : Plan) → ValidPlan step p → RunsRound step p
 
--- Of the arc at a place: its first shot is the sum of the shots before it, the run has the arc's shots from there on, and shot i of
--- the arc lies i steps past its first direction, with its function. One arc for each active sector.
+-- Of the arc at a place: its first shot is the sum of the shots before it, the run has the arc's shots from there on, and shot i of the arc
+-- lies i steps past its first direction, with its function. One arc for each active sector (rule 3.6)
 pub record ArcIn (step : ℕ) (p : Plan) (place : ℕ) (a : Arc) : Type 0 where
   pub first-shot : a .shot ≡ total (λ b. b .shots) (take place (arcs step (activeOf p)))
   pub stretch : take (a .shots) (drop (a .shot) (runOf step p)) ≡ sweep step a
@@ -68,7 +68,7 @@ pub record Tiles (step : ℕ) (p : Plan) : Type 0 where
 abbrev pub Tiling : Type 0
 Tiling = (step : ℕ) (p : Plan) → Tiles step p
 
--- The shots that check 2 counts are the run's shots of functions 3 and 4, and the arcs' points its shots of function 3.
+-- The shots that check 2 counts are the run's shots of functions 3 and 4, and the arcs' points its shots of function 3 (rules 3.8 and 4.18)
 pub record Counts (step : ℕ) (p : Plan) : Type 0 where
   pub lit : litShots p step ≡ count (λ s. isLit (s .function)) (runOf step p)
   pub points : total (λ a. a .points) (arcs step (activeOf p)) ≡ count (λ s. eqb (s .function) 3) (runOf step p)

@@ -1,4 +1,4 @@
-// The active sectors, those before the first function 0, and the tests of their functions and stops.
+// The active sectors, those before the first function 0, and the tests of their functions and stops (rule 3.1).
 ghost use mathlib.Core.Path.{_≡_};
 ghost use mathlib.Core.Bool.{_&&_};
 ghost use lib.ListN.{length};
@@ -28,7 +28,7 @@ pub fn active_count(plan: Plan) -> usize
     i
 }
 
-// The stop of the last active sector, 0 where there is none.
+// The stop of the last active sector, 0 where there is none (rule 3.5).
 pub(crate) fn last_stop(plan: Plan) -> Angle
     ensures { λ r. ⌜ r .0 ≡ lastStop 0 (activeOf plan) ⌝ }
 {
@@ -47,7 +47,7 @@ pub(crate) fn last_stop(plan: Plan) -> Angle
     last
 }
 
-// There is an active sector, and the stops of the active ones increase.
+// There is an active sector, and the stops of the active ones increase (rule 3.3).
 pub fn rising(plan: Plan) -> bool
     ensures { λ r. ⌜ r ≡ (some (activeOf plan) && increases (activeOf plan)) ⌝ }
 {
@@ -74,7 +74,7 @@ pub fn rising(plan: Plan) -> bool
     true
 }
 
-// A function and a stop that an active sector may have.
+// A function and a stop that an active sector may have (rule 3.3).
 fn sector_ok(sector: Sector) -> bool
     ensures { λ r. ⌜ r ≡ sectorOk sector ⌝ }
 {
@@ -85,7 +85,7 @@ fn sector_ok(sector: Sector) -> bool
     units::on_circle(stop)
 }
 
-// Every active sector has a function and a stop that it may have.
+// Every active sector has a function and a stop that it may have (rule 3.3).
 pub fn sectors_ok(plan: Plan) -> bool
     ensures { λ r. ⌜ r ≡ every sectorOk (activeOf plan) ⌝ }
 {
@@ -105,7 +105,7 @@ pub fn sectors_ok(plan: Plan) -> bool
     true
 }
 
-// Every active stop is a multiple of the step.
+// Every active stop is a multiple of the step (rule 3.3).
 pub fn whole_steps(plan: Plan, step: Angle) -> bool
     ensures { λ r. ⌜ r ≡ multiples (step .0) (activeOf plan) ⌝ }
 {

@@ -9,7 +9,7 @@ use crate::Sector;
 use crate::active::last_stop;
 use units::Angle;
 
-// Only function 3 gives points.
+// Only function 3 gives points (rule 3.8).
 fn points_of(function: u16, shots: u16) -> u16
     ensures { λ r. ⌜ r ≡ (if eqb function 3 then shots else 0) ⌝ }
 {
@@ -19,7 +19,7 @@ fn points_of(function: u16, shots: u16) -> u16
     0
 }
 
-// The arc of a sector, from the stop before it and the number of its first shot.
+// The arc of a sector, from the stop before it and the number of its first shot (rules 3.5 and 3.6).
 fn arc_of(sector: Sector, before: Angle, step: Angle, shot: u16) -> Arc
     ensures { λ r. ⌜ r ≡ arcOf (step .0) (before .0) shot sector ⌝ }
 {
@@ -51,7 +51,7 @@ fn no_arc() -> Arc
     }
 }
 
-// The arc of the sector at a place; zeros where no active sector stands there.
+// The arc of the sector at a place; zeros where no active sector stands there (rule 3.5).
 pub fn arc_at(plan: Plan, step: Angle, place: usize) -> Arc
     ensures { λ r. ⌜ r ≡ arcAt plan (step .0) place ⌝ }
 {

@@ -1,4 +1,4 @@
-// The four checks of TRANS_MEASURE.
+// The four checks of TRANS_MEASURE (rule 4.18).
 ghost use mathlib.Core.Path.{_≡_};
 ghost use Rattle.words.specs.Choice.{if_then_else_};
 ghost use Rattle.plan.specs.Checks.{isLit, litShots, measureError};
@@ -10,7 +10,7 @@ use crate::active::whole_steps;
 use crate::arcs::arc_at;
 use units::Angle;
 
-// The shots of an arc if its function is 3 or 4, else none.
+// The shots of an arc if its function is 3 or 4, else none (rule 3.2).
 fn lit_in(arc: Arc) -> u16
     ensures { λ r. ⌜ r ≡ (if isLit (arc .function) then arc .shots else 0) ⌝ }
 {
@@ -24,7 +24,7 @@ fn lit_in(arc: Arc) -> u16
     0
 }
 
-// The shots of functions 3 and 4 in one revolution.
+// The shots of functions 3 and 4 in one revolution (rule 4.18).
 fn lit_shots(plan: Plan, step: Angle) -> u16
     ensures { λ r. ⌜ r ≡ litShots plan (step .0) ⌝ }
 {
@@ -38,7 +38,7 @@ fn lit_shots(plan: Plan, step: Angle) -> u16
     sum
 }
 
-// The first check that fails, in the order 3, 4, 1, 2; 0 for none.
+// The first check that fails, in the order 3, 4, 1, 2; 0 for none (rule 4.18).
 pub fn measure_error(plan: Plan, step: Angle, speed: u16) -> u16
     ensures { λ r. ⌜ r ≡ measureError plan (step .0) speed ⌝ }
 {

@@ -25,7 +25,7 @@ pub fn entry_at(plan: Plan, place: usize) -> Sector
     unused()
 }
 
-// The plan with the entry at a place set; as it was where there is no such place.
+// The plan with the entry at a place set; as it was where there is no such place (rule 4.8).
 pub fn with_entry(plan: Plan, place: usize, entry: Sector) -> Plan
     ensures { λ r. ⌜ r ≡ withEntry plan place entry ⌝ }
 {

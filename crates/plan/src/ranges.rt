@@ -5,7 +5,7 @@ use crate::Plan;
 use crate::Sector;
 use units::Angle;
 
-// One of the 23 steps.
+// One of the 23 steps (rule 2.1).
 pub fn is_step(step: Angle) -> bool
     ensures { λ r. ⌜ r ≡ isStep (step .0) ⌝ }
 {
@@ -19,7 +19,7 @@ pub fn is_step(step: Angle) -> bool
     units::divides_circle(step)
 }
 
-// A function that an active sector may have.
+// A function that an active sector may have (rule 3.3).
 pub(crate) fn is_function(f: u16) -> bool
     ensures { λ r. ⌜ r ≡ isFunction f ⌝ }
 {
@@ -32,7 +32,7 @@ pub(crate) fn is_function(f: u16) -> bool
     f == 4
 }
 
-// An entry's function is one of these or 0, and its stop lies on the circle.
+// An entry's function is one of these or 0, and its stop lies on the circle (rule 2.2).
 fn entry_in_range(entry: Sector) -> bool
     ensures { λ r. ⌜ r ≡ entryInRange entry ⌝ }
 {
@@ -46,7 +46,7 @@ fn entry_in_range(entry: Sector) -> bool
     is_function(entry.function)
 }
 
-// All eight entries are in their ranges.
+// All eight entries are in their ranges (rule 2.2).
 pub fn plan_in_range(plan: Plan) -> bool
     ensures { λ r. ⌜ r ≡ planInRange plan ⌝ }
 {

@@ -1,4 +1,4 @@
--- What the inner writers ask of their callers, and the words that each puts. No outside caller meets these.
+-- Technical: no rule stands here. What the inner writers ask of their callers, and the words that each puts. No outside caller meets these.
 use mathlib.Core.Path.{_≡_}
 use mathlib.Core.List.{List, _++_}
 use Prim.Native.Nat.{ℕ, _+_, _≤_, _<_}

@@ -30,14 +30,14 @@ use Rattle.profile.specs.Points.{selected, pointWords}
 use Rattle.profile.specs.Profiles.{Scan, pointsOf, sectorOf, arcsOf, rateOf, fieldsOf}
 use Rattle.profile.specs.Revolutions.{revolved, listsFit, revolutionOf}
 
--- Demand 1: a refusal changes nothing
+-- Demand 1: a refusal changes nothing (rule 6.2)
 abbrev pub RefusalsChangeNothing : Type 0
 RefusalsChangeNothing =
     (s : State) (g : Scan) (before : List ℕ) → (revolutionOf s g (length before) .reply .refusal ≡ 0 → ⊥)
     → Unchanged s before (revolutionOf s g (length before))
 
 -- the table of a revolution's numbers, in their order: state outside its ranges; mode not MEASURE; a list without a word for each shot;
--- buffer shorter than the profile
+-- buffer shorter than the profile (rule 6.1)
 abbrev pub numbersForNo : State → Scan → ℕ → List No
 numbersForNo s g room =
     no 1 (not (inRange s))
@@ -46,22 +46,23 @@ numbersForNo s g room =
     ∷ no 6 (ltb room (length (revolved s g .words)))
     ∷ []
 
--- the first that is due is given, and no other
+-- the first that is due is given, and no other (rule 6.1)
 abbrev pub RefusalsExactly : Type 0
 RefusalsExactly = (s : State) (g : Scan) (room : ℕ) → revolutionOf s g room .reply .refusal ≡ firstOf (numbersForNo s g room)
 
--- a state in its ranges is in its ranges after every revolution
+-- a state in its ranges is in its ranges after every revolution (rule 2.8)
 abbrev pub RangesKept : Type 0
 RangesKept = (s : State) (g : Scan) (room : ℕ) → T (inRange s) → T (inRange (revolutionOf s g room .reply .state))
 
 -- how many words a revolution sends: none without a job, else what the formula says of the job's mask, the active sectors and the points
+-- (rule 5.8)
 abbrev pub sentLength : State → ℕ
 sentLength s =
     if isJob (s .job)
     then profileLength (jobNumbers (s .job) .mask) (length (activeOf (s .working))) (total (λ a. a .points) (arcsOf s))
     else 0
 
--- it is so for every mask; and where a revolution is not refused, it is what is counted
+-- it is so for every mask; and where a revolution is not refused, it is what is counted (rule 5.8)
 pub record Sends (s : State) (g : Scan) : Type 0 where
   pub words : length (revolved s g .words) ≡ sentLength s
   pub counted : (room : ℕ) → revolutionOf s g room .reply .refusal ≡ 0 → revolutionOf s g room .reply .count ≡ sentLength s
@@ -69,83 +70,83 @@ pub record Sends (s : State) (g : Scan) : Type 0 where
 abbrev pub SentLength : Type 0
 SentLength = (s : State) (g : Scan) → Sends s g
 
--- a state and lists that a revolution takes
+-- a state and lists that a revolution takes (rules 5.1 and 5.2)
 pub record Turning (s : State) (g : Scan) : Type 0 where
   pub eight : length (s .working .sectors) ≡ 8
   pub range : T (inRange s)
   pub measures : T (isMeasure (s .mode))
   pub lists : T (listsFit s g)
 
--- no profile is longer than the longest
+-- no profile is longer than the longest (rule 5.8)
 abbrev pub NeverLonger : Type 0
 NeverLonger = (s : State) (g : Scan) → Turning s g → length (revolved s g .words) ≤ greatestLength
 
--- the fields of a profile are such as the reader takes, where the mask carries what it needs
+-- the fields of a profile are such as the reader takes, where the mask carries what it needs (rule 5.10)
 abbrev pub SentAcceptable : Type 0
 SentAcceptable =
     (s : State) (g : Scan) → Turning s g → (mask sent counter : ℕ) → T (maskOk mask) → T (not (uncounted mask))
     → Acceptable (fieldsOf s g mask sent counter)
 
--- the words of the run's shot k: its direction, and the lists' words at that shot
+-- the words of the run's shot k: its direction, and the lists' words at that shot (rule 5.6)
 abbrev pub shotWords : ℕ → State → Scan → ℕ → List ℕ
 shotWords mask s g k =
     pointWords mask (getD (g .distances) k 0) (getD (runOf (s .step .0) (s .working)) k noShot .direction) (getD (g .echoes) k 0)
 
--- a sector of a profile: it is that of the plan's arc, with the step that the shots were taken at, and its points are the run's shots
--- from the arc's first one on, in order, each of function 3
+-- a sector of a profile: it is that of the plan's arc, with the step that the shots were taken at, and its points are the run's shots from
+-- the arc's first one on, in order, each of function 3 (rule 5.6)
 pub record CarriesShots (s : State) (g : Scan) (mask number : ℕ) (a : Arc) (f : SectorFields) : Type 0 where
   pub is : f ≡ sectorOf mask (s .step .0) (rateOf s) g number a
   pub step : f .step ≡ givenIf (bit mask bits.step) (s .step .0)
   pub body : f .body ≡ inTurn (λ i. shotWords mask s g (a .shot + i)) (a .points)
   pub measured : (i : ℕ) → i < a .points → getD (runOf (s .step .0) (s .working)) (a .shot + i) noShot .function ≡ 3
 
--- the points of a profile's sector are the run's shots of function 3: for every state, every mask and every active sector
+-- the points of a profile's sector are the run's shots of function 3: for every state, every mask and every active sector (rule 5.6)
 abbrev pub PointsAreShots : Type 0
 PointsAreShots =
     (s : State) (g : Scan) (mask sent counter place : ℕ) → place < length (activeOf (s .working))
     → (other : SectorFields)
     → CarriesShots s g mask place (arcAt (s .working) (s .step .0) place) (getD (fieldsOf s g mask sent counter .sectors) place other)
 
--- the words of those of some shots that have function 3, in order; k is the number of the first shot
+-- the words of those of some shots that have function 3, in order; k is the number of the first shot (rule 3.8)
 abbrev pub measuredFrom : ℕ → Scan → ℕ → List Shot → List ℕ
 measuredFrom mask g k [] = []
 measuredFrom mask g k (x ∷ xs) =
     (if eqb (x .function) 3 then pointWords mask (getD (g .distances) k 0) (x .direction) (getD (g .echoes) k 0) else [])
     ++ measuredFrom mask g (suc k) xs
 
--- and the other way round: the points of a whole profile, sector after sector, are exactly the run's shots of function 3, none left out
--- and none invented
+-- and the other way round: the points of a whole profile, sector after sector, are exactly the run's shots of function 3, none left out and
+-- none invented (rule 3.8)
 abbrev pub AllPoints : Type 0
 AllPoints =
     (s : State) (g : Scan) (mask sent counter : ℕ)
     → laidAll (λ f. f .body) (fieldsOf s g mask sent counter .sectors) ≡ measuredFrom mask g 0 (runOf (s .step .0) (s .working))
 
--- the same points with all distances first, then all directions, then all echoes
+-- the same points with all distances first, then all directions, then all echoes (rule 5.6)
 abbrev pub asBlocks : ℕ → ℕ → Scan → Arc → List ℕ
 asBlocks mask step g a =
     inTurn (λ i. selected mask bits.distance (getD (g .distances) (a .shot + i) 0)) (a .points)
     ++ (inTurn (λ i. selected mask bits.direction (stepsPast step i (a .first .0))) (a .points)
     ++ inTurn (λ i. selected mask bits.echo (getD (g .echoes) (a .shot + i) 0)) (a .points))
 
--- two points of step 8 from direction 16, at distances 1 and 2
+-- two points of step 8 from direction 16, at distances 1 and 2 (rule 5.6)
 abbrev pub twoPoints : Arc
 twoPoints = record { function = 3; first = record { 0 = 16 }; last = record { 0 = 24 }; shot = 0; shots = 2; points = 2 }
 
 abbrev pub twoShots : Scan
 twoShots = record { start = 0; distances = 1 ∷ 2 ∷ []; echoes = 3 ∷ 4 ∷ [] }
 
--- the same shots, each with the echo of the one behind it
+-- the same shots, each with the echo of the one behind it (rule 5.6)
 abbrev pub laterEchoes : Scan → Scan
 laterEchoes g = record { start = g .start; distances = g .distances; echoes = drop 1 (g .echoes) }
 
--- no writer of blocks meets the contract of the writer of points
+-- no writer of blocks meets the contract of the writer of points (rule 5.6)
 abbrev pub NotAsBlocks : Type 0
 NotAsBlocks =
     (before after : List ℕ) (count : ℕ) → Wrote (asBlocks 0x0700 8 twoShots twoPoints) before after count
     → Wrote (pointsOf 0x0700 8 twoShots twoPoints) before after count
     → ⊥
 
--- nor does one that takes the echo of the next shot
+-- nor does one that takes the echo of the next shot (rule 5.6)
 abbrev pub NotLaterEchoes : Type 0
 NotLaterEchoes =
     (before after : List ℕ) (count : ℕ) → Wrote (pointsOf 0x0700 8 (laterEchoes twoShots) twoPoints) before after count

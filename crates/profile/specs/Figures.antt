@@ -1,4 +1,4 @@
--- Document 01, 'Bench figures': the P rows of profiles; and the rows of a listing of real heads. Proved in proofs/ProfileRows.antt.
+-- Rules, section 7: the P rows of profiles; and the rows of a listing of real heads. Proved in proofs/ProfileRows.antt.
 use mathlib.Core.List.{List, [], _∷_}
 use Prim.Native.Nat.{ℕ, _-_, _*_}
 use lib.ListN.{replicate}
@@ -16,19 +16,19 @@ use Rattle.state.specs.Fresh.{freshPlan, measuring}
 use Rattle.profile.specs.Profiles.{Scan}
 use Rattle.profile.specs.Revolutions.{revolutionOf}
 
--- so many shots, from start time 0, each of distance 0 and echo 0
+-- so many shots, from start time 0, each of distance 0 and echo 0 (rule 7.5)
 abbrev pub still : ℕ → Scan
 still shots = record { start = 0; distances = replicate shots 0; echoes = replicate shots 0 }
 
 abbrev pub profileRows : List Row
 profileRows =
-    -- mask 0120h on the fresh plan: 724 words
+    -- mask 0120h on the fresh plan: 724 words (rule 7.5)
     record {
       value = revolutionOf (measuring freshPlan 8 10 0x0120) (still 720) 724 .reply .count ∷ profileLength 0x0120 1 720 ∷ [];
       figure = 724 ∷ 724 ∷ [];
     }
     -- the two sectors at step 4 and 10 Hz, from start time 0: number, step, points, time and direction of the first shot and of the last,
-    -- sector by sector
+    -- sector by sector (rule 7.6)
     ∷ record {
       value = revolutionOf (measuring twoSectors 4 10 0x18F8) (still 1440) 17 .written;
       figure =
@@ -38,15 +38,15 @@ profileRows =
     }
     ∷ []
 
--- The listing's own configurations, document 002, 8.2.1, which real heads run. A scanned area of so many sixteenths of a degree, up to
--- the last direction: the whole circle is one sector, less of it comes behind one without measurement.
+-- The listing's own configurations, document 002, 8.2.1, which real heads run. A scanned area of so many sixteenths of a degree, up to the
+-- last direction: the whole circle is one sector, less of it comes behind one without measurement (rule 4.18)
 abbrev pub wholeCircle : ℕ → Plan
 wholeCircle step = filled (sector 3 (circle - step) ∷ [])
 
 abbrev pub lastPart : ℕ → ℕ → Plan
 lastPart area step = filled (sector 1 (circle - area - step) ∷ sector 3 (circle - step) ∷ [])
 
--- the first check that fails, words of points in a profile, lit shots a second, and shots a second
+-- the first check that fails, words of points in a profile, lit shots a second, and shots a second (rule 4.18)
 abbrev pub throughput : Plan → ℕ → ℕ → ℕ → List ℕ
 throughput p step speed mask =
     measureError p step speed
@@ -56,6 +56,7 @@ throughput p step speed mask =
     ∷ []
 
 -- 180, 270 and 360 degrees are 2880, 4320 and 5760 sixteenths, and 1/8, 3/16, 1/4, 3/8, 1/2 and 3/4 degree are steps 2, 3, 4, 6, 8 and 12
+-- (rule 4.18)
 abbrev pub listingRows : List Row
 listingRows =
     record { value = throughput (lastPart 2880 2) 2 5 0x3DFF; figure = 0 ∷ 2880 ∷ 7200 ∷ 14400 ∷ [] }

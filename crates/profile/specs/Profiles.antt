@@ -1,4 +1,4 @@
--- Document 01, 'A revolution and its profile': the fields of a revolution's profile, kept where the mask selects them.
+-- Rules, section 5: the fields of a revolution's profile, kept where the mask selects them.
 use mathlib.Core.List.{List, [], _∷_}
 use Prim.Native.Nat.{ℕ, suc, _+_, _-_, _*_}
 use lib.ListN.{getD}
@@ -16,7 +16,7 @@ use Rattle.state.specs.declared.State.{State}
 use Rattle.state.specs.Modes.{modeNumber}
 use Rattle.profile.specs.Points.{pointWords}
 
--- a scan, what a revolution's caller hands in: the start time, and the words of distance and echo by shot
+-- a scan, what a revolution's caller hands in: the start time, and the words of distance and echo by shot (rule 5.1)
 pub record Scan : Type 0 where
   pub start : ℕ
   pub distances : List ℕ
@@ -25,16 +25,16 @@ pub record Scan : Type 0 where
 abbrev pub scan : ℕ → List ℕ → List ℕ → Scan
 scan start distances echoes = record { start = start; distances = distances; echoes = echoes }
 
--- point i of an arc, i steps past its first direction: the lists' words at that shot
+-- point i of an arc, i steps past its first direction: the lists' words at that shot (rule 5.6)
 abbrev pub pointAt : ℕ → ℕ → Scan → Arc → ℕ → List ℕ
 pointAt mask step g a i =
     pointWords mask (getD (g .distances) (a .shot + i) 0) (stepsPast step i (a .first .0)) (getD (g .echoes) (a .shot + i) 0)
 
--- the words of an arc's points
+-- the words of an arc's points (rule 5.6)
 unfoldable pub pointsOf : ℕ → ℕ → Scan → Arc → List ℕ
 pointsOf mask step g a = inTurn (pointAt mask step g a) (a .points)
 
--- a sector: number, step, points, time of its first shot, first direction; the points; time of its last shot, last direction
+-- a sector: number, step, points, time of its first shot, first direction; the points; time of its last shot, last direction (rule 5.5)
 abbrev pub sectorOf : ℕ → ℕ → ℕ → Scan → ℕ → Arc → SectorFields
 sectorOf mask step rate g number a =
     record {
@@ -48,19 +48,19 @@ sectorOf mask step rate g number a =
       enddir = givenIf (bit mask bits.enddir) (a .last .0);
     }
 
--- the sectors, numbered from a number on
+-- the sectors, numbered from a number on (rule 5.7)
 abbrev pub sectorsOf : ℕ → ℕ → ℕ → Scan → ℕ → List Arc → List SectorFields
 sectorsOf mask step rate g number [] = []
 sectorsOf mask step rate g number (a ∷ l) = sectorOf mask step rate g number a ∷ sectorsOf mask step rate g (suc number) l
 
--- the arcs of a state's revolution, and the rate of its shots
+-- the arcs of a state's revolution, and the rate of its shots (rule 3.5)
 abbrev pub arcsOf : State → List Arc
 arcsOf s = arcs (s .step .0) (activeOf (s .working))
 
 abbrev pub rateOf : State → ℕ
 rateOf s = s .running * revolutionShots (s .step .0)
 
--- number sent, counter, layer 0; the sectors; SENSTAT
+-- number sent, counter, layer 0; the sectors; SENSTAT (rule 5.5)
 abbrev pub fieldsOf : State → Scan → ℕ → ℕ → ℕ → Fields
 fieldsOf s g mask sent counter =
     record {

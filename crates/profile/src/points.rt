@@ -13,7 +13,7 @@ use units::Distance;
 use units::Echo;
 use units::steps_past;
 
-// The selected words of one point at a place; the place behind them.
+// The selected words of one point at a place; the place behind them (rule 5.6).
 fn put_point(
     out: &mut [u16],
     at: usize,
@@ -30,7 +30,7 @@ fn put_point(
     put_selected(out, q, mask, bits::ECHO, echo.0)
 }
 
-// The points of a sector over the front of the buffer, the selected words of each together; how many words they are.
+// The points of a sector over the front of the buffer, the selected words of each together; how many words they are (rule 5.6).
 pub(crate) fn write_points(
     out: &mut [u16],
     distances: &[u16],

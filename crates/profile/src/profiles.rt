@@ -20,7 +20,7 @@ use state::State;
 use units::Angle;
 use units::Time;
 
-// The points of all sectors of a plan.
+// The points of all sectors of a plan (rule 5.8).
 fn plan_points(plan: Plan, step: Angle) -> u16
     ensures { λ r. ⌜ r ≡ total (λ a. a .points) (arcs (step .0) (activeOf plan)) ⌝ }
 {
@@ -35,7 +35,7 @@ fn plan_points(plan: Plan, step: Angle) -> u16
     sum
 }
 
-// The length of a plan's profile.
+// The length of a plan's profile (rule 5.8).
 pub(crate) fn plan_length(plan: Plan, step: Angle, mask: u32) -> usize
     ensures { λ r. ⌜ r ≡ profileLength mask (length (activeOf plan)) (total (λ a. a .points) (arcs (step .0) (activeOf plan))) ⌝ }
 {
@@ -44,7 +44,7 @@ pub(crate) fn plan_length(plan: Plan, step: Angle, mask: u32) -> usize
     layout::profile_length(mask, count as u16, points)
 }
 
-// The words that depend on no bit, at the front of the buffer; the place behind them.
+// The words that depend on no bit, at the front of the buffer; the place behind them (rule 5.4).
 fn put_head(out: &mut [u16], mask: u16, sectors: u16) -> usize
     requires { ⌜ (sectors ≤ 8) × (headLength ≤ length (now out)) ⌝ }
     ensures { λ r. ⌜ Wrote (head mask sectors) (now (out .entry)) (now (out .exit)) r ⌝ }
@@ -55,7 +55,7 @@ fn put_head(out: &mut [u16], mask: u16, sectors: u16) -> usize
     3
 }
 
-// The selected words before the sectors, at a place; the place behind them.
+// The selected words before the sectors, at a place; the place behind them (rule 5.5).
 fn put_front(out: &mut [u16], at: usize, mask: u32, sent: u16, counter: u16) -> usize
     requires { ⌜ at + length (frontWords mask sent counter) ≤ length (now out) ⌝ }
     ensures { λ r. ⌜ Put (frontWords mask sent counter) (now (out .entry)) at (now (out .exit)) r ⌝ }
@@ -65,7 +65,7 @@ fn put_front(out: &mut [u16], at: usize, mask: u32, sent: u16, counter: u16) -> 
     put_selected(out, b, mask, bits::LAYER, 0)
 }
 
-// SENSTAT behind the sectors, at a place; the place behind it.
+// SENSTAT behind the sectors, at a place; the place behind it (rule 5.5).
 fn put_status(out: &mut [u16], at: usize, mask: u32, status: u16) -> usize
     requires { ⌜ at + length (statusWords mask status) ≤ length (now out) ⌝ }
     ensures { λ r. ⌜ Put (statusWords mask status) (now (out .entry)) at (now (out .exit)) r ⌝ }
@@ -74,7 +74,7 @@ fn put_status(out: &mut [u16], at: usize, mask: u32, status: u16) -> usize
     put_selected(out, a, mask, bits::SENSTAT, status)
 }
 
-// The profile of a revolution over the front of the buffer; how many words it has.
+// The profile of a revolution over the front of the buffer; how many words it has (rule 5.5).
 pub(crate) fn write_profile(
     out: &mut [u16],
     state: State,

@@ -13,14 +13,14 @@ use state::Reply;
 use state::State;
 use units::Time;
 
-// A counter of 16 bits after its rise.
+// A counter of 16 bits after its rise (rule 5.2).
 fn risen_by_one(n: u16) -> u16
     ensures { λ r. ⌜ r ≡ risen n ⌝ }
 {
     ((n as u32 + 1) % 65536) as u16
 }
 
-// The job after a revolution.
+// The job after a revolution (rule 5.3).
 fn job_after(job: Job) -> Job
     requires { ⌜ JobAsked job ⌝ }
     ensures { λ r. ⌜ r ≡ jobAfter job ⌝ }
@@ -55,7 +55,7 @@ fn turn(state: State) -> State
     state::with_counter(driven, risen_by_one(state.counter))
 }
 
-// Refusals 1, 7 and 8, 0 for none.
+// Refusals 1, 7 and 8, 0 for none (rule 6.1).
 fn revolution_refusal(state: State, distances: &[u16], echoes: &[u16]) -> u16
     ensures { λ r. ⌜ r ≡ revolutionRefusal state (scan 0 (now (distances .entry)) (now (echoes .entry))) ⌝ }
 {
@@ -77,7 +77,8 @@ fn revolution_refusal(state: State, distances: &[u16], echoes: &[u16]) -> u16
     0
 }
 
-// The profile of a job, and the state after it, where the buffer has room; refusal 6 with the state as it came where it has none.
+// The profile of a job, and the state after it, where the buffer has room; refusal 6 with the state as it came where it has none (rule
+// 5.3).
 fn send(
     state: State,
     start: Time,
@@ -111,7 +112,7 @@ fn send(
     }
 }
 
-// One revolution from a start time, with the distance and the echo of each shot; its profile into the buffer that is lent.
+// One revolution from a start time, with the distance and the echo of each shot; its profile into the buffer that is lent (rule 5.1).
 pub fn revolution(
     state: State,
     start: Time,

@@ -1,4 +1,4 @@
-// The sectors of a profile, each into its own part of the buffer.
+// The sectors of a profile, each into its own part of the buffer (rule 5.7).
 ghost use Prim.Native.Nat.{_+_, _≤_};
 ghost use lib.ListN.{length};
 ghost use Rattle.words.specs.Buffers.{Put, Wrote};
@@ -14,7 +14,7 @@ use units::Angle;
 use units::Time;
 use units::shot_time;
 
-// The selected words before a sector's points, at a place; the place behind them.
+// The selected words before a sector's points, at a place; the place behind them (rule 5.5).
 fn put_opening(
     out: &mut [u16],
     at: usize,
@@ -35,7 +35,7 @@ fn put_opening(
     put_selected(out, d, mask, bits::STARTDIR, startdir.0)
 }
 
-// The selected words behind a sector's points, at a place; the place behind them.
+// The selected words behind a sector's points, at a place; the place behind them (rule 5.5).
 fn put_closing(out: &mut [u16], at: usize, mask: u32, tend: Time, enddir: Angle) -> usize
     requires { ⌜ at + length (closingWords mask (tend .0) (enddir .0)) ≤ length (now out) ⌝ }
     ensures { λ r. ⌜ Put (closingWords mask (tend .0) (enddir .0)) (now (out .entry)) at (now (out .exit)) r ⌝ }

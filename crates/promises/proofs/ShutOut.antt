@@ -1,4 +1,4 @@
--- No stand-in that document 01 names meets the contracts: each is held against one or two calls whose answers are computed.
+-- None of the named stand-ins meets the contracts: each is held against one or two calls whose answers are computed.
 use mathlib.Core.Path.{_≡_, refl, sym, ap, _∙_}
 use mathlib.Core.List.{List, [], _∷_}
 use Prim.Native.Nat.{ℕ}

@@ -12,8 +12,8 @@ use Rattle.promises.specs.Determined.{Determined}
 use Rattle.promises.specs.Exchange.{SentIsRead}
 use Rattle.promises.specs.Life.{Life}
 
--- 1. Every list of words, every lent buffer and every sensor state handed in gets an answer and the call ends. A refusal by number, as
--- tabled in document 01, writes no word and changes no part of the state. Nobody is asked to check a request first.
+-- 1. Whatever words, buffer and state a call is handed, it answers and ends. What it refuses by number leaves every word and the whole
+-- state as they were, and no caller has to test anything before (rules 1.5, 6.1 and 6.2)
 pub record Demand1 : Type 1 where
   -- an answer to everything, and only one: the contracts ask nothing of the caller. That each call ends is in its own proof
   pub answered : Determined
@@ -33,9 +33,9 @@ pub record Demand1 : Type 1 where
   -- a sensor that was switched on never comes to refusal 1
   pub life : Life
 
--- 2. Answers, next mode, configuration and profile layout are those of the SICK telegram listings as condensed in document 01. The
--- host's reader takes exactly the word lists laid out as a profile that carry what it needs, and the words put together again from its
--- reading are the words it was given.
+-- 2. What is answered, what the state becomes and how a profile is laid out are as the rules say. The reader accepts the profiles that
+-- carry what it needs, and no other list of words; and from what it reads the same words can be put together (rules 4.3, 4.4, 5.5, 5.10
+-- and 5.15)
 pub record Demand2 : Type 0 where
   -- the table and its answers, and that a service changes no part of the state but its own
   pub tabled : TableHolds
@@ -60,9 +60,8 @@ pub record Demand2 : Type 0 where
   -- both together
   pub sent-is-read : SentIsRead
 
--- 3. Two sector plans, each valid for the same step, have the same normal plan exactly when over one revolution from sector 0 the head
--- passes the same directions in the same order with the same function at each, those without measurement included. The normal plan
--- itself runs so, normalising again changes nothing, and no valid plan with fewer active sectors runs so.
+-- 3. Plans that are valid for a step are made the same normal plan where they run alike, and only there. It runs as they do, is its own
+-- normal plan, and no valid plan that runs so has fewer active sectors (rules 3.9 and 3.10)
 pub record Demand3 : Type 0 where
   -- of the plan that `normal_plan` hands back
   pub normal-plans : NormalPlans

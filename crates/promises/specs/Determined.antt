@@ -1,4 +1,4 @@
--- Document 01, 'How much each statement has to pin': each public call has exactly one answer that meets its contract, whatever it is handed
+-- Rule 1.5: each public call has exactly one answer that meets its contract, whatever it is handed
 -- and whether it is refused or not. Proved in proofs/Determining.antt.
 use mathlib.Core.Path.{_≡_}
 use mathlib.Core.List.{List}
@@ -30,18 +30,18 @@ use Rattle.dialogue.specs.Records.{TakeRecordSays}
 use Rattle.dialogue.specs.Lines.{WriteLineSays}
 use Rattle.dialogue.specs.Talks.{AnswerSays}
 
--- two answers that meet a contract are equal
+-- two answers that meet a contract are equal (rule 1.5)
 abbrev pub Determines : {A : Type 0} → (A → Type 0) → Type 0
 Determines {A = A} Contract = (a b : A) → Contract a → Contract b → a ≡ b
 
--- a contract that exactly one answer meets: there is one, and every other that meets it is that one
+-- a contract that exactly one answer meets: there is one, and every other that meets it is that one (rule 1.5)
 pub record OneAnswer {A : Type 0} (Contract : A → Type 0) : Type 0 where
   pub answer : A
   pub meets : Contract answer
   pub only : (a : A) → Contract a → a ≡ answer
 
 -- The contracts are the very definitions that the code cites, each over all that the call is handed. A call that is lent a buffer answers
--- with its result and the buffer afterwards.
+-- with its result and the buffer afterwards (rule 1.5)
 pub record Determined : Type 1 where
   pub request : (s : State) (ws before : List ℕ) → OneAnswer (λ (a : Reply × List ℕ). RequestSays s ws before (a .1) (a .0))
   pub revolution : (s : State) (g : Scan) (before : List ℕ) → OneAnswer (λ (a : Reply × List ℕ). RevolutionSays s g before (a .1) (a .0))
@@ -65,6 +65,6 @@ pub record Determined : Type 1 where
   pub by-angle : (n : ℕ) → OneAnswer (λ (a : Angle). a .0 ≡ n)
   pub by-time : (n : ℕ) → OneAnswer (λ (a : Time). a .0 ≡ n)
 
--- so two results that meet the contract of a call are equal
+-- so two results that meet the contract of a call are equal (rule 1.5)
 abbrev pub OneDetermines : Type 1
 OneDetermines = (A : Type 0) (Contract : A → Type 0) → OneAnswer Contract → Determines Contract

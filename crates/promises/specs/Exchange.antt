@@ -14,12 +14,12 @@ use Rattle.reader.specs.Readings.{readOf}
 use Rattle.reader.specs.Stretches.{fieldsIn}
 
 -- words that the reader accepts, and whose reading gives the fields of the revolution: sectors with their numbers, steps, points,
--- directions and times, and SENSTAT, with the number sent and the counter after their rise
+-- directions and times, and SENSTAT, with the number sent and the counter after their rise (rule 5.11)
 pub record Reads (ws : List ℕ) (s : State) (g : Scan) : Type 0 where
   pub accepted : readOf ws .refusal ≡ 0
   pub fields : fieldsIn ws (readOf ws) ≡ fieldsOf s g (jobNumbers (s .job) .mask) (sentAfter (s .job)) (risen (s .counter))
 
--- what a revolution writes, where its job's mask carries what the reader needs
+-- what a revolution writes, where its job's mask carries what the reader needs (rule 5.12)
 abbrev pub ProfileRead : State → Scan → ℕ → Type 0
 ProfileRead s g room =
     revolutionOf s g room .reply .refusal ≡ 0

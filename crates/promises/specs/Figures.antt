@@ -1,4 +1,4 @@
--- Document 01, 'Bench figures': all P rows, and behind them those of the listing of real heads (document 002, 8.2.1), in one list.
+-- Rules, section 7: all P rows, and behind them those of the listing of real heads (document 002, 8.2.1), in one list.
 use mathlib.Core.List.{List, _++_}
 use Prim.Native.Nat.{ℕ, _≤_}
 use Rattle.words.specs.Rows.{Row, Shown}
@@ -10,7 +10,7 @@ use Rattle.state.specs.Figures.{stateRows}
 use Rattle.sensor.specs.Figures.{requestRows}
 use Rattle.profile.specs.Figures.{profileRows, listingRows}
 
--- for any plan that is valid for step 1 and any speed
+-- for any plan that is valid for step 1 and any speed (rules 7.1 to 7.9)
 abbrev pub rows : Plan → ℕ → List Row
 rows p speed = planRows p speed ++ normalRows p ++ stateRows ++ requestRows ++ profileRows ++ listingRows
 

@@ -1,5 +1,5 @@
--- Document 01, 'How much each statement has to pin': programs that only look like one, and that no contract lets through. Each is said of
--- any function that meets the contract. Proved in proofs/ShutOut.antt.
+-- Technical: no rule stands here. Programs that only look like one, and that no contract
+-- lets through. Each is said of any function that meets the contract. Proved in proofs/ShutOut.antt.
 use mathlib.Core.Path.{_≡_}
 use mathlib.Core.List.{List}
 use Prim.Native.Nat.{ℕ}

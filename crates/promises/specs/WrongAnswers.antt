@@ -1,5 +1,5 @@
--- Answers that the contracts of the smaller public functions refuse, where no edit of the code says so. Proved in
--- proofs/Refuted.antt.
+-- Technical: no rule stands here. Answers that the contracts of the smaller public functions refuse, where no edit of the code says so.
+-- Proved in proofs/Refuted.antt.
 use mathlib.Core.Path.{_≡_}
 use mathlib.Core.Bool.{true}
 use mathlib.Core.List.{List, [], _∷_}

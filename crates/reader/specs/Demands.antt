@@ -19,32 +19,32 @@ use Rattle.reader.specs.Readings.{maskIn, refusedReading, readOf}
 use Rattle.reader.specs.Sectors.{blankSector}
 use Rattle.reader.specs.Stretches.{stretchRefusalOf, stretchOf, stretchStart, fieldsIn, wordsBefore, together}
 
--- the reader takes a list of words exactly when it is the layout of such fields
+-- the reader takes a list of words exactly when it is the layout of such fields (rule 5.10)
 abbrev pub AcceptsExactly : Type 0
 AcceptsExactly = (ws : List ℕ) → (readOf ws .refusal ≡ 0) ↔ ((f : Fields) × Acceptable f × (ws ≡ layout f))
 
--- the words put together again from an accepted reading are the words given
+-- the words put together again from an accepted reading are the words given (rule 5.15)
 abbrev pub PutTogether : Type 0
 PutTogether = (ws : List ℕ) → readOf ws .refusal ≡ 0 → together ws ≡ ws
 
--- reading a layout gives back its fields
+-- reading a layout gives back its fields (rule 5.11)
 abbrev pub ReadsBack : Type 0
 ReadsBack = (f : Fields) → Acceptable f → (readOf (layout f) .refusal ≡ 0) × (fieldsIn (layout f) (readOf (layout f)) ≡ f)
 
--- two records of fields with equal words are equal
+-- two records of fields with equal words are equal (rule 5.15)
 abbrev pub OneReading : Type 0
 OneReading = (f g : Fields) → Acceptable f → Acceptable g → layout f ≡ layout g → f ≡ g
 
--- words that are laid out up to where they end, behind the first three: more of them would make a profile
+-- words that are laid out up to where they end, behind the first three: more of them would make a profile (rule 6.1, number 15)
 abbrev pub EndEarly : List ℕ → Type 0
 EndEarly ws = (3 ≤ length ws) × ((f : Fields) × (more : List ℕ) × Acceptable f × T (some more) × (ws ++ more ≡ layout f))
 
--- a profile, and more words behind it
+-- a profile, and more words behind it (rule 6.1, number 16)
 abbrev pub LeftOver : List ℕ → Type 0
 LeftOver ws = (f : Fields) × (more : List ℕ) × Acceptable f × T (some more) × (ws ≡ layout f ++ more)
 
--- the table of numbers 12 to 14: no word, or another first one; fewer than 3 words, mask 0 or with a reserved bit, another number of
--- layers than 1, or of sectors than 1 to 8; words of points without their number
+-- the table of numbers 12 to 14: no word, or another first one; fewer than 3 words, mask 0 or with a reserved bit, another number of layers
+-- than 1, or of sectors than 1 to 8; words of points without their number (rule 6.1)
 abbrev pub headNumbers : List ℕ → List No
 headNumbers ws =
     let mask = getD ws 1 0 in
@@ -62,7 +62,7 @@ headNumbers ws =
     ∷ no 14 ((bit mask 8 || bit mask 9 || bit mask 10) && not (bit mask 5))
     ∷ []
 
--- each number of the reader is given exactly then: the first of those that is due; 15 and 16, which come behind them
+-- each number of the reader is given exactly then: the first of those that is due; 15 and 16, which come behind them (rule 6.1)
 pub record Numbered (ws : List ℕ) : Type 0 where
   pub by-head : (n : ℕ) → 12 ≤ n → n ≤ 14 → (readOf ws .refusal ≡ n) ↔ (firstOf (headNumbers ws) ≡ n)
   pub early : (readOf ws .refusal ≡ 15) ↔ EndEarly ws
@@ -71,7 +71,7 @@ pub record Numbered (ws : List ℕ) : Type 0 where
 abbrev pub RefusalsExactly : Type 0
 RefusalsExactly = (ws : List ℕ) → Numbered ws
 
--- of a stretch: the reader's number where it has one, else 17 exactly where there is no sector at the place
+-- of a stretch: the reader's number where it has one, else 17 exactly where there is no sector at the place (rule 5.13)
 pub record Placed (ws : List ℕ) (place : ℕ) : Type 0 where
   pub words-first : (readOf ws .refusal ≡ 0 → ⊥) → stretchRefusalOf ws place ≡ readOf ws .refusal
   pub not-below : readOf ws .refusal ≡ 0 → readOf ws .count ≤ place → stretchRefusalOf ws place ≡ 17
@@ -80,7 +80,7 @@ pub record Placed (ws : List ℕ) (place : ℕ) : Type 0 where
 abbrev pub StretchNumbers : Type 0
 StretchNumbers = (ws : List ℕ) (place : ℕ) → Placed ws place
 
--- a reading with a number for no has nothing else, and a stretch with one is empty
+-- a reading with a number for no has nothing else, and a stretch with one is empty (rule 5.14)
 pub record Blank (ws : List ℕ) : Type 0 where
   pub reading : (readOf ws .refusal ≡ 0 → ⊥) → readOf ws ≡ refusedReading (readOf ws .refusal)
   pub stretch : (place : ℕ) → (stretchRefusalOf ws place ≡ 0 → ⊥) → stretchOf ws place ≡ []
@@ -88,20 +88,20 @@ pub record Blank (ws : List ℕ) : Type 0 where
 abbrev pub RefusalsGiveNothing : Type 0
 RefusalsGiveNothing = (ws : List ℕ) → Blank ws
 
--- no number of points, or no word of a point: the stretch is empty
+-- no number of points, or no word of a point: the stretch is empty (rule 5.10)
 abbrev pub NoPoints : Type 0
 NoPoints =
     (ws : List ℕ) (place : ℕ) → place < readOf ws .count → (bit (maskIn ws) bits.points ≡ false) ⊎ (pointWidth (maskIn ws) ≡ 0)
     → stretchOf ws place ≡ []
 
--- a sector's points stand at the place reached, whether there are any or not
+-- a sector's points stand at the place reached, whether there are any or not (rule 5.11)
 abbrev pub StandsAtPlace : Type 0
 StandsAtPlace = (ws : List ℕ) (place : ℕ) → place < readOf ws .count → stretchStart ws place ≡ length (wordsBefore ws (readOf ws) place)
 
--- two sectors of one distance each, whose number words stand the wrong way round
+-- two sectors of one distance each, whose number words stand the wrong way round (rule 5.13)
 abbrev pub turnedRound : List ℕ
 turnedRound = 0x8301 ∷ 0x0128 ∷ 0x0102 ∷ 1 ∷ 1 ∷ 500 ∷ 0 ∷ 1 ∷ 600 ∷ []
 
--- a stretch that goes by the sector's own number word is another one
+-- a stretch that goes by the sector's own number word is another one (rule 5.13)
 abbrev pub NotByNumber : Type 0
 NotByNumber = stretchOf turnedRound (numberOf (getD (readOf turnedRound .sectors) 0 blankSector .number)) ≡ stretchOf turnedRound 0 → ⊥

@@ -1,4 +1,5 @@
--- What the loop over the sectors finds: a format read from a place of the words that may be one past their end.
+-- Technical: no rule stands here. What the loop over the sectors finds: a format read from a place of the words that may be one past their
+-- end.
 use mathlib.Core.Path.{_≡_}
 use mathlib.Core.List.{List, []}
 use Prim.Native.Nat.{ℕ, _+_, _≤_}

@@ -1,4 +1,4 @@
--- Document 01, 'A revolution and its profile' and 'Numbers for no' 12 to 16: what the reader gives for a list of words.
+-- Rules 5.10 to 5.14 and the numbers 12 to 16: what the reader gives for a list of words.
 use mathlib.Core.Path.{_≡_}
 use mathlib.Core.Bool.{Bool, not, _&&_}
 use mathlib.Core.List.{List, [], _∷_, _++_}
@@ -20,7 +20,7 @@ use Rattle.reader.specs.declared.SectorReading.{SectorReading}
 use Rattle.reader.specs.declared.Reading.{Reading}
 use Rattle.reader.specs.Sectors.{sector, blankSector}
 
--- the second word; the third; and the number of sectors, its low byte
+-- the second word; the third; and the number of sectors, its low byte (rule 5.4)
 abbrev pub maskIn : List ℕ → ℕ
 maskIn ws = getD ws 1 0
 
@@ -30,30 +30,30 @@ infoIn ws = getD ws 2 0
 abbrev pub countIn : List ℕ → ℕ
 countIn ws = infoIn ws % 256
 
--- the third word: one layer, its high byte, and 1 to 8 sectors
+-- the third word: one layer, its high byte, and 1 to 8 sectors (rule 5.4)
 abbrev pub infoOk : ℕ → Bool
 infoOk info = eqb (info / 256) 1 && leb 1 (info % 256) && leb (info % 256) 8
 
--- the words begin as a profile does, and the words that depend on no bit are there and such as a profile has
+-- the words begin as a profile does, and the words that depend on no bit are there and such as a profile has (rule 6.1)
 abbrev pub begins : List ℕ → Bool
 begins ws = some ws && eqb (getD ws 0 0) profileCode
 
 abbrev pub formed : List ℕ → Bool
 formed ws = leb headLength (length ws) && maskOk (maskIn ws) && infoOk (infoIn ws)
 
--- 12 to 14, by these words; 0 for none
+-- 12 to 14, by these words; 0 for none (rule 6.1)
 unfoldable pub headRefusal : List ℕ → ℕ
 headRefusal ws = if not (begins ws) then 12 else if not (formed ws) then 13 else if uncounted (maskIn ws) then 14 else 0
 
--- what stands behind the first three words, with the sectors as S has them
+-- what stands behind the first three words, with the sectors as S has them (rule 5.5)
 abbrev pub Body : Type 0 → Type 0
 Body S = Word × (Word × (Word × (List S × (Word × (Word × Unit {0})))))
 
--- the sectors of it
+-- the sectors of it (rule 5.5)
 abbrev pub sectorsIn : {S : Type 0} → Body S → List S
 sectorsIn b = b .1 .1 .1 .0
 
--- as a format
+-- as a format (rule 5.10)
 abbrev pub body : ℕ → ℕ → Format (Body SectorReading) (Body SectorFields)
 body mask count =
     optional (bit mask bits.sent) λ sent.
@@ -64,11 +64,11 @@ body mask count =
     optional (bit mask bits.senstat) λ low.
     nothing)
 
--- eight entries
+-- eight entries (rule 5.11)
 abbrev pub padded : List SectorReading → List SectorReading
 padded xs = xs ++ replicate (8 - length xs) blankSector
 
--- with a number for no, and nothing else
+-- with a number for no, and nothing else (rule 5.14)
 abbrev pub refusedReading : ℕ → Reading
 refusedReading refusal =
     record {
@@ -97,7 +97,7 @@ acceptedReading mask count a =
       low = a .1 .1 .1 .1 .1 .0;
     }
 
--- 15 where the words end early, 16 where words are left over
+-- 15 where the words end early, 16 where words are left over (rule 6.1)
 abbrev pub ended : ℕ → ℕ → Got (Body SectorReading) → Reading
 ended mask count short = refusedReading 15
 ended mask count (got a place []) = acceptedReading mask count a
@@ -106,10 +106,10 @@ ended mask count (got a place (w ∷ ws)) = refusedReading 16
 unfoldable pub bodyOf : List ℕ → Reading
 bodyOf ws = ended (maskIn ws) (countIn ws) (body (maskIn ws) (countIn ws) .parse headLength (drop headLength ws))
 
--- what the reader gives
+-- what the reader gives (rule 5.10)
 unfoldable pub readOf : List ℕ → Reading
 readOf ws = if eqb (headRefusal ws) 0 then bodyOf ws else refusedReading (headRefusal ws)
 
--- what is promised of `read`
+-- what is promised of `read` (rule 5.11)
 abbrev pub ReadSays : List ℕ → Reading → Type 0
 ReadSays ws r = r ≡ readOf ws

@@ -1,4 +1,4 @@
--- Document 01, 'A revolution and its profile': a sector as the host's reader finds it, and the format by which it is read.
+-- Rules 5.5 and 5.10: a sector as the host's reader finds it, and the format by which it is read.
 use mathlib.Core.List.{List}
 use Prim.Native.Nat.{ℕ, _*_}
 use Rattle.words.specs.declared.Word.{Word}
@@ -14,7 +14,7 @@ use Rattle.reader.specs.declared.SectorReading.{SectorReading}
 use Rattle.reader.specs.declared.Found.{Found}
 use Rattle.reader.specs.declared.Found.the-variants.{Cut, Whole}
 
--- a sector's words one by one, with its points as S has them: a place and a length, or the words themselves
+-- a sector's words one by one, with its points as S has them: a place and a length, or the words themselves (rule 5.5)
 abbrev pub Raw : Type 0 → Type 0
 Raw S = Word × (Word × (Word × (Word × (Word × (S × (Word × (Word × Unit {0})))))))
 
@@ -53,7 +53,7 @@ toFields a =
 abbrev pub fromFields : SectorFields → Raw (List ℕ)
 fromFields r = (r .number, (r .step, (r .points, (r .tstart, (r .startdir, (r .body, (r .tend, (r .enddir, tt))))))))
 
--- the layout's order: the words that the mask selects, and as many words of points as their number says
+-- the layout's order: the words that the mask selects, and as many words of points as their number says (rule 5.10)
 abbrev pub rawSector : ℕ → Format (Raw Span) (Raw (List ℕ))
 rawSector mask =
     optional (bit mask bits.number) λ number.
@@ -69,7 +69,7 @@ rawSector mask =
 abbrev pub sector : ℕ → Format SectorReading SectorFields
 sector mask = recast toReading fromReading toFields fromFields (rawSector mask)
 
--- an entry with no sector
+-- an entry with no sector (rule 5.14)
 abbrev pub blankSector : SectorReading
 blankSector =
     record {
@@ -84,7 +84,7 @@ blankSector =
       enddir = Absent;
     }
 
--- what the sector reader answers: the words ended early, or the sector and the place behind it
+-- what the sector reader answers: the words ended early, or the sector and the place behind it (rule 5.11)
 abbrev pub foundOf : Got SectorReading → Found
 foundOf short = Cut
 foundOf (got s place ws) = Whole s place

@@ -10,7 +10,7 @@ use layout::bits;
 use words::Word;
 use words::take_word;
 
-// A refused reading: every field absent.
+// A refused reading: every field absent (rule 5.14).
 fn refused(refusal: u16) -> Reading
     ensures { λ r. ⌜ r ≡ refusedReading refusal ⌝ }
 {
@@ -27,7 +27,7 @@ fn refused(refusal: u16) -> Reading
     }
 }
 
-// What stands behind the first three words: refusals 15 and 16, or the reading.
+// What stands behind the first three words: refusals 15 and 16, or the reading (rule 6.1).
 fn read_body(words: &[u16]) -> Reading
     requires { ⌜ headRefusal (now words) ≡ 0 ⌝ }
     ensures { λ r. ⌜ r ≡ bodyOf (now (words .entry)) ⌝ }

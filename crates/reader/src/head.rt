@@ -4,7 +4,7 @@ ghost use Rattle.reader.specs.Readings.{infoOk, headRefusal};
 use layout::HEAD;
 use layout::PROFILE_CODE;
 
-// The third word: its high byte, the layers, is 1, and its low byte, the number of sectors, 1 to 8.
+// The third word: its high byte, the layers, is 1, and its low byte, the number of sectors, 1 to 8 (rule 5.4).
 fn info_ok(info: u16) -> bool
     ensures { λ r. ⌜ r ≡ infoOk info ⌝ }
 {
@@ -17,7 +17,7 @@ fn info_ok(info: u16) -> bool
     info % 256 <= 8
 }
 
-// Refusals 12 to 14, 0 for none.
+// Refusals 12 to 14, 0 for none (rule 6.1).
 pub(crate) fn head_refusal(words: &[u16]) -> u16
     ensures { λ r. ⌜ r ≡ headRefusal (now (words .entry)) ⌝ }
 {

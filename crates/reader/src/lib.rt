@@ -10,7 +10,7 @@ pub use body::read;
 pub use stretches::stretch;
 pub use stretches::stretch_refusal;
 
-// A sector's words, each marked absent where the mask leaves it out, and where its points stand in the words given.
+// A sector's words, each marked absent where the mask leaves it out, and where its points stand in the words given (rule 5.11).
 pub struct SectorReading {
     pub number: Word,
     pub step: Word,
@@ -23,7 +23,7 @@ pub struct SectorReading {
     pub enddir: Word,
 }
 
-// A profile's words: the number for no, the head, how many sectors there are, the sectors, SENSTAT.
+// A profile's words: the number for no, the head, how many sectors there are, the sectors, SENSTAT (rule 5.11).
 pub struct Reading {
     pub refusal: u16,
     pub mask: Word,

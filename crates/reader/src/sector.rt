@@ -14,7 +14,7 @@ use words::product;
 use words::skip;
 use words::take_word;
 
-// A word's number, 0 where it is absent.
+// A word's number, 0 where it is absent (rule 5.10).
 fn number_of(word: Word) -> u16
     ensures { λ r. ⌜ r ≡ numberOf word ⌝ }
 {
@@ -41,7 +41,7 @@ pub(crate) fn blank() -> SectorReading
     }
 }
 
-// The sector whose first word is the first of rest; base is where that word stands in the words given.
+// The sector whose first word is the first of rest; base is where that word stands in the words given (rule 5.10).
 fn read_sector(rest: &[u16], mask: u32, base: usize) -> Found
     requires { ⌜ base + length (now rest) < 2 ^ 63 ⌝ }
     ensures { λ r. ⌜ r ≡ foundOf (sector mask .parse base (now (rest .entry))) ⌝ }

@@ -2,7 +2,7 @@
 ghost use Rattle.reader.specs.Stretches.{StretchRefusalSays, StretchSays};
 use crate::body::read;
 
-// The number for no of the call below, on the same words and place; 0 for none.
+// The number for no of the call below, on the same words and place; 0 for none (rule 5.13).
 pub fn stretch_refusal(words: &[u16], place: usize) -> u16
     ensures { λ r. ⌜ StretchRefusalSays (now (words .entry)) place r ⌝ }
 {
@@ -16,7 +16,7 @@ pub fn stretch_refusal(words: &[u16], place: usize) -> u16
     17
 }
 
-// The points of the sector at a place, a part of the words given; empty where there is a number for no.
+// The points of the sector at a place, a part of the words given; empty where there is a number for no (rule 5.13).
 pub fn stretch(words: &[u16], place: usize) -> &[u16]
     ensures { λ r. ⌜ StretchSays (words .entry) place r ⌝ }
 {

@@ -18,14 +18,14 @@ use Rattle.sensor.specs.declared.Service.{Service}
 use Rattle.sensor.specs.Table.{rowOf, response, services, serviceOf, allowed, outcomeOf, isListed, silent}
 use Rattle.sensor.specs.Requests.{outcome, requestOf}
 
--- Demand 1: a refusal writes nothing, hands the state back as it came and counts no word
+-- Demand 1: a refusal writes nothing, hands the state back as it came and counts no word (rule 6.2)
 abbrev pub RefusalsChangeNothing : Type 0
 RefusalsChangeNothing =
     (s : State) (ws before : List ℕ) → (requestOf s ws (length before) .reply .refusal ≡ 0 → ⊥)
     → Unchanged s before (requestOf s ws (length before))
 
 -- the table of numbers 1 to 6: state outside its ranges; no word; code not in the table; wrong number of words; mode not listed; buffer
--- shorter than the answer
+-- shorter than the answer (rule 6.1)
 abbrev pub numbersForNo : State → List ℕ → ℕ → List No
 numbersForNo s ws room =
     no 1 (not (inRange s))
@@ -36,20 +36,20 @@ numbersForNo s ws room =
     ∷ no 6 (ltb room (length (outcome s ws .words)))
     ∷ []
 
--- the first that is due is given, and no other
+-- the first that is due is given, and no other (rule 6.1)
 abbrev pub RefusalsExactly : Type 0
 RefusalsExactly = (s : State) (ws : List ℕ) (room : ℕ) → requestOf s ws room .reply .refusal ≡ firstOf (numbersForNo s ws room)
 
--- with room for the longest answer 6 is never given
+-- with room for the longest answer 6 is never given (rule 7.10)
 abbrev pub RoomForAll : Type 0
 RoomForAll = (s : State) (ws : List ℕ) (room : ℕ) → longest ≤ room → requestOf s ws room .reply .refusal ≡ 6 → ⊥
 
--- a state in its ranges is in its ranges after every request, refused or served
+-- a state in its ranges is in its ranges after every request, refused or served (rule 2.8)
 abbrev pub RangesKept : Type 0
 RangesKept = (s : State) (ws : List ℕ) (room : ℕ) → T (areWords ws) → T (inRange s) → T (inRange (requestOf s ws room .reply .state))
 
--- Of a service of the table: its code names it; its answer is never longer than the longest; it begins with the response code, and there
--- is at least that word, but for where a job starts, and there is none exactly there.
+-- Of a service of the table: its code names it; its answer is never longer than the longest; it begins with the response code, and there is
+-- at least that word, but for where a job starts, and there is none exactly there (rule 4.1)
 pub record Tabled (v : Service) : Type 0 where
   pub found : serviceOf (rowOf v .code) ≡ v
   pub short : (s : State) (a b c d : ℕ) → length (outcomeOf v s a b c d .words) ≤ longest
@@ -60,7 +60,7 @@ abbrev pub TableHolds : Type 0
 TableHolds = (v : Service) → T (isListed v) → Tabled v
 
 -- What a request changes: the parts of the state that the row of its service names, and nothing else; and nothing where SET_CONFIG is
--- answered no value.
+-- answered no value (rule 4.4)
 pub record Stays (s : State) (ws : List ℕ) (room : ℕ) : Type 0 where
   pub only : requestOf s ws room .reply .state ≡ onlyIn (rowOf (serviceOf (getD ws 0 0)) .changes) s (requestOf s ws room .reply .state)
   pub no-config : requestOf s ws room .written ≡ response (rowOf Service.SetConfig .code) ∷ noValue ∷ [] → requestOf s ws room .reply .state ≡ s

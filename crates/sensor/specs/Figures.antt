@@ -1,4 +1,4 @@
--- Document 01, 'Bench figures': the P rows of requests. Proved in proofs/RequestRows.antt.
+-- Rules, section 7: the P rows of requests. Proved in proofs/RequestRows.antt.
 use mathlib.Core.List.{List, [], _∷_, _++_}
 use Prim.Native.Nat.{ℕ}
 use Rattle.words.specs.Rows.{Row, Shown}
@@ -7,25 +7,25 @@ use Rattle.state.specs.Fresh.{freshState}
 use Rattle.services.specs.Answers.{longest}
 use Rattle.sensor.specs.Requests.{requestOf}
 
--- requests one after another, each into a buffer that every answer fits: the refusals, and the words behind each
+-- requests one after another, each into a buffer that every answer fits: the refusals, and the words behind each (rules 7.1 to 7.3)
 unfoldable pub dialogue : State → List (List ℕ) → List ℕ
 dialogue s [] = []
 dialogue s (ws ∷ rest) =
     (requestOf s ws longest .reply .refusal ∷ requestOf s ws longest .written)
     ++ dialogue (requestOf s ws longest .reply .state) rest
 
--- SET_CONFIG with id 1, and GET_CONFIG
+-- SET_CONFIG with id 1, and GET_CONFIG (rules 4.6 and 4.7)
 abbrev configured : ℕ → ℕ → List ℕ
 configured speed step = 0x0201 ∷ 0x0010 ∷ 1 ∷ speed ∷ step ∷ []
 
 abbrev config : List ℕ
 config = 0x0202 ∷ 0x0010 ∷ []
 
--- SET_FUNCTION without flash
+-- SET_FUNCTION without flash (rule 4.8)
 abbrev sectorTo : ℕ → ℕ → ℕ → List ℕ
 sectorTo number function stop = 0x020A ∷ number ∷ function ∷ stop ∷ 0 ∷ []
 
--- TRANS_ROTATE and TRANS_MEASURE
+-- TRANS_ROTATE and TRANS_MEASURE (rules 4.15 and 4.16)
 abbrev rotated : ℕ → List ℕ
 rotated speed = 0x0403 ∷ speed ∷ []
 
@@ -34,7 +34,7 @@ measured = 0x0404 ∷ []
 
 abbrev pub requestRows : List Row
 requestRows =
-    -- steps 7 and 72 are no steps and change nothing; 64 and 1 are steps
+    -- steps 7 and 72 are no steps and change nothing; 64 and 1 are steps (rule 7.1)
     record {
       value =
           dialogue freshState
@@ -47,14 +47,14 @@ requestRows =
           ∷ 0 ∷ 0x8201 ∷ 0x0010
           ∷ 0 ∷ 0x8202 ∷ 0x0010 ∷ 1 ∷ 10 ∷ 1 ∷ [];
     }
-    -- stops of a revolution and more are turned back: 5760, 5761 and 65535
+    -- stops of a revolution and more are turned back: 5760, 5761 and 65535 (rule 7.2)
     ∷ record {
       value = dialogue freshState (sectorTo 0 3 5760 ∷ sectorTo 0 3 5761 ∷ sectorTo 0 3 65535 ∷ []);
       figure = 0 ∷ 0x820A ∷ 0 ∷ 3 ∷ 0 ∷ 0 ∷ 0x820A ∷ 0 ∷ 3 ∷ 1 ∷ 0 ∷ 0x820A ∷ 0 ∷ 3 ∷ 2175 ∷ [];
     }
-    -- SET_SIGNAL with every bit set, from port 0: bits 2 and 3 stay
+    -- SET_SIGNAL with every bit set, from port 0: bits 2 and 3 stay (rule 7.3)
     ∷ record { value = dialogue freshState ((0x0105 ∷ 0xFFFF ∷ []) ∷ []); figure = 0 ∷ 0x8105 ∷ 0x00F3 ∷ [] }
-    -- step 1 is too fine at any speed: the fresh plan at 5 Hz and at 20 Hz, error 1
+    -- step 1 is too fine at any speed: the fresh plan at 5 Hz and at 20 Hz, error 1 (rule 7.1)
     ∷ record {
       value = dialogue freshState (configured 10 1 ∷ rotated 5 ∷ measured ∷ rotated 20 ∷ measured ∷ []);
       figure =
@@ -64,7 +64,7 @@ requestRows =
           ∷ 0 ∷ 0x8403 ∷ 0 ∷ 2
           ∷ 0 ∷ 0x8404 ∷ 0 ∷ 2 ∷ 1 ∷ [];
     }
-    -- the plan of two sectors at step 4: error 1 at 11 Hz, none at 10 Hz
+    -- the plan of two sectors at step 4: error 1 at 11 Hz, none at 10 Hz (rule 7.7)
     ∷ record {
       value =
           dialogue freshState
@@ -78,17 +78,17 @@ requestRows =
           ∷ 0 ∷ 0x8403 ∷ 0 ∷ 2
           ∷ 0 ∷ 0x8404 ∷ 0 ∷ 3 ∷ 0 ∷ [];
     }
-    -- a whole revolution measured at step 2 and 5 Hz: error 2
+    -- a whole revolution measured at step 2 and 5 Hz: error 2 (rule 7.7)
     ∷ record {
       value = dialogue freshState (configured 5 2 ∷ sectorTo 0 3 5758 ∷ rotated 5 ∷ measured ∷ []);
       figure = 0 ∷ 0x8201 ∷ 0x0010 ∷ 0 ∷ 0x820A ∷ 0 ∷ 3 ∷ 5758 ∷ 0 ∷ 0x8403 ∷ 0 ∷ 2 ∷ 0 ∷ 0x8404 ∷ 0 ∷ 2 ∷ 2 ∷ [];
     }
-    -- stop 5752, the fresh one, at step 10: error 4
+    -- stop 5752, the fresh one, at step 10: error 4 (rule 7.8)
     ∷ record {
       value = dialogue freshState (configured 10 10 ∷ rotated 0 ∷ measured ∷ []);
       figure = 0 ∷ 0x8201 ∷ 0x0010 ∷ 0 ∷ 0x8403 ∷ 0 ∷ 2 ∷ 0 ∷ 0x8404 ∷ 0 ∷ 2 ∷ 4 ∷ [];
     }
-    -- the program's dialogue
+    -- the program's dialogue (rule 7.12)
     ∷ record {
       value = dialogue freshState ((0x0102 ∷ []) ∷ measured ∷ rotated 0 ∷ measured ∷ [] ∷ []);
       figure = 0 ∷ 0x8102 ∷ 0 ∷ 1 ∷ 5 ∷ 0 ∷ 0x8403 ∷ 0 ∷ 2 ∷ 0 ∷ 0x8404 ∷ 0 ∷ 3 ∷ 0 ∷ 2 ∷ [];

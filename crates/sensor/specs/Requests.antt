@@ -1,4 +1,4 @@
--- Document 01, 'Numbers for no': a request, its refusals 1 to 6 in order, and what it hands back.
+-- Rules, section 6: a request, its refusals 1 to 6 in order, and what it hands back.
 use mathlib.Core.Bool.{not}
 use mathlib.Core.List.{List}
 use Prim.Native.Nat.{ℕ}
@@ -13,29 +13,29 @@ use Rattle.state.specs.Replies.{Outcome, Result, refused, delivered, Answered}
 use Rattle.sensor.specs.declared.Service.{Service}
 use Rattle.sensor.specs.Table.{rowOf, serviceOf, allowed, outcomeOf, isListed}
 
--- 3 for a code that is not in the table, 4 for a wrong number of words, 5 for a mode that is not listed
+-- 3 for a code that is not in the table, 4 for a wrong number of words, 5 for a mode that is not listed (rule 6.1)
 unfoldable pub serviceRefusal : Service → ℕ → Mode → ℕ
 serviceRefusal v count mode =
     if not (isListed v) then 3 else
     if not (eqb count (rowOf v .wordsIn)) then 4 else
     if not (allowed v mode) then 5 else 0
 
--- 1 for a state outside its ranges, 2 for no word, then 3 to 5; 0 for none
+-- 1 for a state outside its ranges, 2 for no word, then 3 to 5; 0 for none (rule 6.1)
 unfoldable pub requestRefusal : State → List ℕ → ℕ
 requestRefusal s ws =
     if not (inRange s) then 1 else
     if eqb (length ws) 0 then 2 else
     serviceRefusal (serviceOf (getD ws 0 0)) (length ws) (s .mode)
 
--- what the service of the first word does with the others
+-- what the service of the first word does with the others (rule 4.3)
 unfoldable pub outcome : State → List ℕ → Outcome
 outcome s ws = outcomeOf (serviceOf (getD ws 0 0)) s (getD ws 1 0) (getD ws 2 0) (getD ws 3 0) (getD ws 4 0)
 
--- a request into a buffer of so many words: one of refusals 1 to 5, or 6, or the outcome
+-- a request into a buffer of so many words: one of refusals 1 to 5, or 6, or the outcome (rule 4.17)
 unfoldable pub requestOf : State → List ℕ → ℕ → Result
 requestOf s ws room =
     if eqb (requestRefusal s ws) 0 then delivered s (outcome s ws) room else refused s (requestRefusal s ws)
 
--- the contract of `request`: the reply, and the buffer from its contents before to those after
+-- the contract of `request`: the reply, and the buffer from its contents before to those after (rule 4.17)
 abbrev pub RequestSays : State → List ℕ → List ℕ → List ℕ → Reply → Type 0
 RequestSays s ws before after r = Answered r before after (requestOf s ws (length before))

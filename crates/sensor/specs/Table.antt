@@ -1,4 +1,4 @@
--- Document 01, 'Services': the table, as data.
+-- Rules, section 4: the table, as data.
 use mathlib.Core.Path.{_≡_}
 use mathlib.Core.Bool.{Bool, true, false, not, _&&_, _||_}
 use mathlib.Core.List.{List, [], _∷_}
@@ -18,8 +18,8 @@ use Rattle.services.specs.Measurement.{startsJob, getProfile, cancelProfile}
 use Rattle.services.specs.Working.{driveParts, resetParts, doReset, transIdle, transRotate, transMeasure}
 use Rattle.sensor.specs.declared.Service.{Service}
 
--- a row of the table: the code, how many words come in, the code's included, whether IDLE, ROTATE and MEASURE are listed, the parts of
--- the state that the service may change, and what it does, given the response code and the words after the code
+-- a row of the table: the code, how many words come in, the code's included, whether IDLE, ROTATE and MEASURE are listed, the parts of the
+-- state that the service may change, and what it does, given the response code and the words after the code (rule 4.3)
 pub record Entry : Type 0 where
   pub code : ℕ
   pub wordsIn : ℕ
@@ -33,7 +33,7 @@ abbrev entry : ℕ → ℕ → Bool → Bool → Bool → List Part → (State �
 entry code wordsIn idle rotate measure changes does =
     record { code = code; wordsIn = wordsIn; idle = idle; rotate = rotate; measure = measure; changes = changes; does = does }
 
--- the rows
+-- the rows (rule 4.3)
 abbrev pub rowOf : Service → Entry
 rowOf Service.GetStatus = entry 0x0102 1 true true true [] (λ s r a b c d. getStatus s r)
 rowOf Service.GetSignal = entry 0x0104 1 true true true [] (λ s r a b c d. getSignal s r)
@@ -50,11 +50,11 @@ rowOf Service.TransRotate = entry 0x0403 2 true true true driveParts (λ s r a b
 rowOf Service.TransMeasure = entry 0x0404 1 false true true (part.mode ∷ []) (λ s r a b c d. transMeasure s r)
 rowOf Service.Unknown = entry 0 0 false false false [] (λ s r a b c d. answer s [])
 
--- a response code; `RESPONSE` in the code
+-- a response code; `RESPONSE` in the code (rule 4.1)
 abbrev pub response : ℕ → ℕ
 response code = code + 0x8000
 
--- the services of the table
+-- the services of the table (rule 4.3)
 abbrev pub services : List Service
 services =
     Service.GetStatus
@@ -72,7 +72,7 @@ services =
     ∷ Service.TransMeasure
     ∷ []
 
--- the first service of a list that has the code, and Unknown where none has
+-- the first service of a list that has the code, and Unknown where none has (rule 4.3)
 abbrev pub named : ℕ → List Service → Service
 named code [] = Service.Unknown
 named code (v ∷ vs) = if eqb code (rowOf v .code) then v else named code vs
@@ -80,7 +80,7 @@ named code (v ∷ vs) = if eqb code (rowOf v .code) then v else named code vs
 unfoldable pub serviceOf : ℕ → Service
 serviceOf code = named code services
 
--- the mode is listed
+-- the mode is listed (rule 4.3)
 abbrev pub listed : Bool → Bool → Bool → Mode → Bool
 listed idle rotate measure Idle = idle
 listed idle rotate measure Rotate = rotate
@@ -89,19 +89,19 @@ listed idle rotate measure Measure = measure
 abbrev pub allowed : Service → Mode → Bool
 allowed v mode = listed (rowOf v .idle) (rowOf v .rotate) (rowOf v .measure) mode
 
--- what the service does, given the words after the code
+-- what the service does, given the words after the code (rule 4.3)
 abbrev pub outcomeOf : Service → State → ℕ → ℕ → ℕ → ℕ → Outcome
 outcomeOf v s a b c d = rowOf v .does s (response (rowOf v .code)) a b c d
 
--- the service is in the table: each row has a word, the code's, at least
+-- the service is in the table: each row has a word, the code's, at least (rule 4.3)
 abbrev pub isListed : Service → Bool
 isListed v = not (eqb (rowOf v .wordsIn) 0)
 
--- no word is due: of what is no service, and of a GET_PROFILE whose mask starts a job
+-- no word is due: of what is no service, and of a GET_PROFILE whose mask starts a job (rule 4.10)
 abbrev pub silent : Service → ℕ → ℕ → ℕ → ℕ → Bool
 silent v a b c d = not (isListed v) || (eqb (rowOf v .code) (rowOf Service.GetProfile .code) && startsJob b)
 
--- a row as the code holds it is that of a code
+-- a row as the code holds it is that of a code (rule 4.3)
 pub record Lists (v : Service) (w : ℕ) (i r m : Bool) (code : ℕ) : Type 0 where
   pub service : v ≡ serviceOf code
   pub wordsIn : w ≡ rowOf v .wordsIn

@@ -4,7 +4,7 @@ mod table;
 
 pub use requests::request;
 
-// The services of the table, and what stands for a code that is not in it.
+// The services of the table, and what stands for a code that is not in it (rule 4.3).
 pub enum Service {
     GetStatus,
     GetSignal,

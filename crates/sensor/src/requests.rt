@@ -17,7 +17,7 @@ use state::Mode;
 use state::Reply;
 use state::State;
 
-// Refusals 3, 4 and 5.
+// Refusals 3, 4 and 5 (rule 6.1).
 fn service_refusal(code: u16, count: usize, mode: Mode) -> u16
     ensures { λ r. ⌜ r ≡ serviceRefusal (serviceOf code) count mode ⌝ }
 {
@@ -36,7 +36,7 @@ fn service_refusal(code: u16, count: usize, mode: Mode) -> u16
     0
 }
 
-// Refusals 1 to 5, 0 for none.
+// Refusals 1 to 5, 0 for none (rule 6.1).
 fn request_refusal(state: State, words: &[u16]) -> u16
     ensures { λ r. ⌜ r ≡ requestRefusal state (now (words .entry)) ⌝ }
 {
@@ -65,7 +65,7 @@ fn serve_words(state: State, words: &[u16]) -> Served
     serve(service, state, response, a, b, c, d)
 }
 
-// The first words of an answer go to the buffer's start.
+// The first words of an answer go to the buffer's start (rule 4.17).
 fn write(words: [u16; LONGEST], count: usize, out: &mut [u16])
     requires { ⌜ (count ≤ longest) × (count ≤ length (now out)) ⌝ }
     ensures { λ r. ⌜ now (out .exit) ≡ over (take count words) (now (out .entry)) ⌝ }
@@ -77,7 +77,7 @@ fn write(words: [u16; LONGEST], count: usize, out: &mut [u16])
     }
 }
 
-// Refusal 6 with the state as it came, or the answer and the next state.
+// Refusal 6 with the state as it came, or the answer and the next state (rule 6.2).
 fn deliver(served: Served, state: State, out: &mut [u16]) -> Reply
     requires { ⌜ served .count ≤ longest ⌝ }
     ensures { λ r. ⌜ Answered r (now (out .entry)) (now (out .exit)) (delivered state (unpacked served) (length (now (out .entry)))) ⌝ }
@@ -100,7 +100,7 @@ fn deliver(served: Served, state: State, out: &mut [u16]) -> Reply
     }
 }
 
-// One request, answered into the buffer that is lent.
+// One request, answered into the buffer that is lent (rule 4.17).
 pub fn request(state: State, words: &[u16], out: &mut [u16]) -> Reply
     ensures { λ r. ⌜ RequestSays state (now (words .entry)) (now (out .entry)) (now (out .exit)) r ⌝ }
 {

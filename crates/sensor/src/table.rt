@@ -1,4 +1,4 @@
-// The table: codes, words in, modes, and the function of each service.
+// The table: codes, words in, modes, and the function of each service (rule 4.3).
 ghost use mathlib.Core.Path.{_≡_};
 ghost use Prim.Native.Nat.{_%_};
 ghost use Rattle.services.specs.Answers.{Gives};
@@ -9,7 +9,7 @@ use state::Mode;
 use state::State;
 use units::Angle;
 
-// What a response code has more than its request's; `response` in the specs.
+// What a response code has more than its request's; `response` in the specs (rule 4.1).
 const RESPONSE: u32 = 0x8000;
 
 // A row: the service, how many words come in, the code's included, and whether IDLE, ROTATE and MEASURE are listed.
@@ -48,7 +48,7 @@ pub(crate) fn is_allowed(row: Row, mode: Mode) -> bool
     }
 }
 
-// The response code of a request's.
+// The response code of a request's (rule 4.1).
 pub(crate) fn response_code(code: u16) -> u16
     ensures { λ r. ⌜ r ≡ response code % 65536 ⌝ }
 {

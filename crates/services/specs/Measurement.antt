@@ -1,4 +1,4 @@
--- Document 01, 'Services': GET_PROFILE, CANCEL_PROFILE.
+-- Rules, section 4: GET_PROFILE, CANCEL_PROFILE.
 use mathlib.Core.Bool.{Bool, not}
 use mathlib.Core.List.{[], _∷_}
 use Prim.Native.Nat.{ℕ}
@@ -12,21 +12,21 @@ use Rattle.state.specs.Fields.{withDrive}
 use Rattle.state.specs.Replies.{Outcome}
 use Rattle.services.specs.Answers.{answer, answerStatus}
 
--- a new job, none sent yet; of 0 profiles it is endless
+-- a new job, none sent yet; of 0 profiles it is endless (rule 4.10)
 abbrev pub newJob : ℕ → ℕ → Job
 newJob number mask = if eqb number 0 then Endless mask 0 else Counted number mask 0
 
--- the mask starts a job: a bit is left when the reserved ones are cleared
+-- the mask starts a job: a bit is left when the reserved ones are cleared (rule 4.10)
 abbrev pub startsJob : ℕ → Bool
 startsJob mask = not (eqb (cleared mask) 0)
 
--- a new job in the place of the old one, and no word; where the mask starts none, the job stays and the code alone is answered
+-- a new job in the place of the old one, and no word; where the mask starts none, the job stays and the code alone is answered (rule 4.10)
 abbrev pub getProfile : State → ℕ → ℕ → ℕ → Outcome
 getProfile s code number mask =
     if startsJob mask
     then answer (withDrive s (s .mode) (s .running) (newJob number (cleared mask))) []
     else answer s (code ∷ [])
 
--- ends the job; SENSTAT
+-- ends the job; SENSTAT (rule 4.11)
 abbrev pub cancelProfile : State → ℕ → Outcome
 cancelProfile s code = answerStatus code (withDrive s (s .mode) (s .running) Absent)

@@ -86,7 +86,7 @@ pub(crate) fn five_words(state: State, a: u16, b: u16, c: u16, d: u16, e: u16) -
     }
 }
 
-// A response code, then SENSTAT.
+// A response code, then SENSTAT (rule 4.2).
 pub(crate) fn answer_status(state: State, code: u16) -> Served
     ensures { λ r. ⌜ Gives r (answerStatus code state) ⌝ }
 {

@@ -11,10 +11,10 @@ use plan::Sector;
 use state::State;
 use units::Angle;
 
-// The item of id, speed and step; `configItem` in the specs.
+// The item of id, speed and step; `configItem` in the specs (rule 4.6).
 const CONFIG_ITEM: u16 = 0x0010;
 
-// The item is the configuration's, and id, speed and step are in their ranges.
+// The item is the configuration's, and id, speed and step are in their ranges (rule 4.6).
 fn config_taken(item: u16, id: u16, speed: u16, step: Angle) -> bool
     ensures { λ r. ⌜ r ≡ configTaken item id speed (step .0) ⌝ }
 {
@@ -24,7 +24,7 @@ fn config_taken(item: u16, id: u16, speed: u16, step: Angle) -> bool
     state::config_ok(id, speed, step)
 }
 
-// All four words are tested first: what is refused leaves the state as it came.
+// All four words are tested first: what is refused leaves the state as it came (rule 4.6).
 pub fn set_config(state: State, code: u16, item: u16, id: u16, speed: u16, step: Angle) -> Served
     ensures { λ r. ⌜ Gives r (setConfig state code item id speed (step .0)) ⌝ }
 {
@@ -44,7 +44,7 @@ pub fn get_config(state: State, code: u16, item: u16) -> Served
     five_words(state, code, item, state.id, state.speed, step.0)
 }
 
-// The sector that SET_FUNCTION takes.
+// The sector that SET_FUNCTION takes (rule 4.8).
 fn sector_set(number: u16) -> u16
     ensures { λ r. ⌜ r ≡ sectorSet number ⌝ }
 {
@@ -54,7 +54,7 @@ fn sector_set(number: u16) -> u16
     number
 }
 
-// The function that SET_FUNCTION takes.
+// The function that SET_FUNCTION takes (rule 4.8).
 fn function_set(function: u16) -> u16
     ensures { λ r. ⌜ r ≡ functionSet function ⌝ }
 {
@@ -67,7 +67,7 @@ fn function_set(function: u16) -> u16
     function
 }
 
-// Whether the stop is a multiple of the step is not tested here: TRANS_MEASURE does.
+// Whether the stop is a multiple of the step is not tested here: TRANS_MEASURE does (rule 4.8).
 pub fn set_function(
     state: State,
     code: u16,

@@ -23,7 +23,7 @@ pub use working::trans_idle;
 pub use working::trans_measure;
 pub use working::trans_rotate;
 
-// How many words the longest answer has; `longest` in the specs.
+// How many words the longest answer has; `longest` in the specs (rule 7.10).
 pub const LONGEST: usize = 5;
 
 // What is answered in the place of a value that there is none of; `noValue` in the specs.

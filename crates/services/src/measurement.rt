@@ -1,4 +1,4 @@
-// GET_PROFILE, CANCEL_PROFILE.
+// GET_PROFILE, CANCEL_PROFILE (rules 4.10 and 4.11).
 ghost use mathlib.Core.Path.{_≡_};
 ghost use Rattle.services.specs.Answers.{Gives};
 ghost use Rattle.services.specs.Measurement.{newJob, getProfile, cancelProfile};
@@ -10,7 +10,7 @@ use layout::MASK_LIMIT;
 use state::Job;
 use state::State;
 
-// A job of so many profiles, none sent yet; 0 is endless.
+// A job of so many profiles, none sent yet; 0 is endless (rule 4.10).
 fn new_job(number: u16, mask: u16) -> Job
     ensures { λ r. ⌜ r ≡ newJob number mask ⌝ }
 {

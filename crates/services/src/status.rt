@@ -18,7 +18,7 @@ pub fn get_signal(state: State, code: u16) -> Served
     two_words(state, code, state.port as u16)
 }
 
-// Bits 2 and 3 of the port stay.
+// Bits 2 and 3 of the port stay (rule 4.5).
 pub fn set_signal(state: State, code: u16, word: u16) -> Served
     ensures { λ r. ⌜ Gives r (setSignal state code word) ⌝ }
 {

@@ -10,14 +10,14 @@ use state::Job;
 use state::Mode;
 use state::State;
 
-// IDLE at running speed 0, with no job.
+// IDLE at running speed 0, with no job (rule 4.14).
 fn idle(state: State) -> State
     ensures { λ r. ⌜ r ≡ idleOf state ⌝ }
 {
     state::with_drive(state, Mode::Idle, 0, Job::Absent)
 }
 
-// As after power on, but for the configuration and the stored plan, which becomes the working one.
+// As after power on, but for the configuration and the stored plan, which becomes the working one (rule 4.12).
 fn cold(state: State) -> State
     ensures { λ r. ⌜ r ≡ coldOf state ⌝ }
 {
@@ -27,7 +27,7 @@ fn cold(state: State) -> State
     state::with_counter(state::with_port(planned, 0), 0)
 }
 
-// MEASURE becomes ROTATE with no job; other modes stay.
+// MEASURE becomes ROTATE with no job; other modes stay (rule 4.13).
 fn stop_measure(state: State) -> State
     ensures { λ r. ⌜ r ≡ stopMeasure state (state .mode) ⌝ }
 {
@@ -63,7 +63,7 @@ pub fn trans_idle(state: State, code: u16) -> Served
     answer_status(idle(state), code)
 }
 
-// ROTATE at the configured speed for 0, at the speed given for 5 to 20; else IDLE.
+// ROTATE at the configured speed for 0, at the speed given for 5 to 20; else IDLE (rule 4.15).
 fn rotate(state: State, speed: u16) -> State
     ensures { λ r. ⌜ r ≡ rotateOf state speed ⌝ }
 {
@@ -82,7 +82,7 @@ pub fn trans_rotate(state: State, code: u16, speed: u16) -> Served
     answer_status(rotate(state, speed), code)
 }
 
-// MEASURE at error 0, and a running job goes on; else ROTATE with no job.
+// MEASURE at error 0, and a running job goes on; else ROTATE with no job (rule 4.16).
 fn measured(state: State, error: u16) -> State
     ensures { λ r. ⌜ r ≡ measureOf state error ⌝ }
 {

@@ -1,5 +1,5 @@
-// The stand-in as a program: records of requests on standard input, a line for each on standard output. What a record, its answer
-// and its line are is the library's; here is only the way from one block of bytes to the next.
+// The stand-in as a program: records of requests on standard input, a line for each on standard output. What a record, its answer and its
+// line are is the library's; here is only the way from one block of bytes to the next (rule 7.10).
 ghost use Prim.Native.Nat.{_≤_};
 ghost use lib.ListN.{length};
 use libc::STDIN_FILENO;

@@ -6,7 +6,7 @@ use lib.Dec.{eqb}
 use Rattle.words.specs.Choice.{if_then_else_}
 use Rattle.state.specs.declared.State.{State}
 
--- the configuration is id, configured speed and step
+-- the configuration is id, configured speed and step (rule 4.4)
 pub data Part : Type 0 where
   config : Part
   working : Part
@@ -17,7 +17,7 @@ pub data Part : Type 0 where
   counter : Part
   job : Part
 
--- a number for each, by which they are told apart
+-- a number for each, by which they are told apart (rule 4.4)
 abbrev pub partNumber : Part → ℕ
 partNumber config = 0
 partNumber working = 1
@@ -28,12 +28,12 @@ partNumber port = 5
 partNumber counter = 6
 partNumber job = 7
 
--- the part is one of these
+-- the part is one of these (rule 4.4)
 abbrev pub isOneOf : Part → List Part → Bool
 isOneOf part [] = false
 isOneOf part (p ∷ ps) = eqb (partNumber part) (partNumber p) || isOneOf part ps
 
--- the state s, but that these parts of it are as t has them
+-- the state s, but that these parts of it are as t has them (rule 4.4)
 abbrev pub onlyIn : List Part → State → State → State
 onlyIn parts s t =
     record {

@@ -1,4 +1,4 @@
--- Document 01, 'State and ranges': the state of a sensor that was just switched on, and of one that measures.
+-- Rules, section 2: the state of a sensor that was just switched on, and of one that measures.
 use mathlib.Core.Path.{_≡_}
 use mathlib.Core.List.{[], _∷_}
 use Prim.Native.Nat.{ℕ}
@@ -10,7 +10,7 @@ use Rattle.state.specs.declared.Mode.the-variants.{Idle, Measure}
 use Rattle.state.specs.declared.Job.the-variants.{Absent, Counted}
 use Rattle.state.specs.Fields.{withConfig, withPlans, withDrive}
 
--- one sector of function 3 that begins at 0
+-- one sector of function 3 that begins at 0 (rule 2.9)
 abbrev pub freshPlan : Plan
 freshPlan = filled (sector 3 5752 ∷ [])
 
@@ -29,11 +29,11 @@ freshState =
       job = Absent;
     }
 
--- the contract of `fresh`
+-- the contract of `fresh` (rule 2.9)
 abbrev pub FreshSays : State → Type 0
 FreshSays r = r ≡ freshState
 
--- a fresh sensor, but that it measures with a plan at a step and a running speed, with a job of one profile
+-- a fresh sensor, but that it measures with a plan at a step and a running speed, with a job of one profile (rule 5.9)
 abbrev pub measuring : Plan → ℕ → ℕ → ℕ → State
 measuring p step running mask =
     withDrive (withPlans (withConfig freshState (freshState .id) (freshState .speed) step) p p) Measure running (Counted 1 mask 0)

@@ -1,4 +1,4 @@
--- Document 01, 'Services': the number of a mode, which SENSTAT has for its low word.
+-- Rule 2.3: the number of a mode, which SENSTAT has for its low word.
 use Prim.Native.Nat.{ℕ}
 use Rattle.state.specs.declared.Mode.{Mode}
 use Rattle.state.specs.declared.Mode.the-variants.{Idle, Rotate, Measure}

@@ -25,7 +25,7 @@ pub enum Mode {
     Measure,
 }
 
-// A profile job: none; so many left, with its mask and the number sent; or endless, with its mask and the number sent.
+// A profile job: none; so many left, with its mask and the number sent; or endless, with its mask and the number sent (rule 2.7).
 pub enum Job {
     Absent,
     Counted { left: u16, mask: u16, sent: u16 },
@@ -45,7 +45,8 @@ pub struct State {
     pub job: Job,
 }
 
-// What a call hands back beside the words in the buffer: the next state, the number for no (0 for none) and how many words it wrote.
+// What a call hands back beside the words in the buffer: the next state, the number for no (0 for none) and how many words it wrote (rule
+// 4.17).
 pub struct Reply {
     pub state: State,
     pub refusal: u16,

@@ -1,4 +1,4 @@
-// SENSTAT's low word.
+// SENSTAT's low word (rule 2.3).
 ghost use mathlib.Core.Path.{_≡_};
 ghost use Rattle.state.specs.Modes.{modeNumber};
 use crate::Mode;

@@ -1,4 +1,4 @@
-// The test of the ranges: refusal 1 is its failing.
+// The test of the ranges: refusal 1 is its failing (rule 2.8).
 ghost use mathlib.Core.Path.{_≡_};
 ghost use Rattle.state.specs.Ranges.{speedOk, configOk, driveOk, isMeasure, jobOk, aloneOk, inRange};
 use crate::Job;
@@ -7,7 +7,7 @@ use crate::State;
 use plan::Plan;
 use units::Angle;
 
-// 5 to 20 Hz.
+// 5 to 20 Hz (rule 2.1).
 pub fn speed_ok(speed: u16) -> bool
     ensures { λ r. ⌜ r ≡ speedOk speed ⌝ }
 {
@@ -17,7 +17,7 @@ pub fn speed_ok(speed: u16) -> bool
     speed <= 20
 }
 
-// An id, a speed and a step that a configuration may have.
+// An id, a speed and a step that a configuration may have (rule 2.1).
 pub fn config_ok(id: u16, speed: u16, step: Angle) -> bool
     ensures { λ r. ⌜ r ≡ configOk id speed (step .0) ⌝ }
 {
@@ -33,7 +33,7 @@ pub fn config_ok(id: u16, speed: u16, step: Angle) -> bool
     plan::is_step(step)
 }
 
-// The running speed goes with the mode, and in MEASURE the working plan passes the four checks.
+// The running speed goes with the mode, and in MEASURE the working plan passes the four checks (rules 2.4 and 2.5).
 fn drive_ok(mode: Mode, running: u16, working: Plan, step: Angle) -> bool
     ensures { λ r. ⌜ r ≡ driveOk mode running working (step .0) ⌝ }
 {
@@ -59,7 +59,7 @@ pub fn is_measure(mode: Mode) -> bool
     }
 }
 
-// A job exists only in MEASURE, with a mask, a number left and a number sent that it may have.
+// A job exists only in MEASURE, with a mask, a number left and a number sent that it may have (rule 2.7).
 fn job_ok(mode: Mode, job: Job) -> bool
     ensures { λ r. ⌜ r ≡ jobOk mode job ⌝ }
 {
@@ -86,7 +86,7 @@ fn job_ok(mode: Mode, job: Job) -> bool
     }
 }
 
-// The fields that no other field goes with.
+// The fields that no other field goes with (rule 2.2).
 fn alone_ok(state: State) -> bool
     ensures { λ r. ⌜ r ≡ aloneOk state ⌝ }
 {
@@ -94,7 +94,7 @@ fn alone_ok(state: State) -> bool
     plan::plan_in_range(stored)
 }
 
-// Every field is in its range. A state is so as a rule, so no test is left out.
+// Every field is in its range. A state is so as a rule, so no test is left out (rule 2.8).
 pub fn in_range(state: State) -> bool
     ensures { λ r. ⌜ r ≡ inRange state ⌝ }
 {

@@ -1,4 +1,4 @@
-// The state of a sensor that was just switched on.
+// The state of a sensor that was just switched on (rule 2.9).
 ghost use Rattle.state.specs.Fresh.{FreshSays};
 use crate::Job;
 use crate::Mode;

@@ -9,21 +9,21 @@ use crate::CIRCLE;
 // The circle, for sums of more than 16 bits.
 const AROUND: u32 = CIRCLE as u32;
 
-// The direction is one of the circle's.
+// The direction is one of the circle's (rule 2.2).
 pub fn on_circle(direction: Angle) -> bool
     ensures { λ r. ⌜ r ≡ onCircle (direction .0) ⌝ }
 {
     direction.0 < CIRCLE
 }
 
-// The direction that an angle ends at, however often it goes round.
+// The direction that an angle ends at, however often it goes round (rule 4.8).
 pub fn onto_circle(direction: Angle) -> Angle
     ensures { λ r. ⌜ r .0 ≡ direction .0 % circle ⌝ }
 {
     Angle(direction.0 % CIRCLE)
 }
 
-// One step after a direction.
+// One step after a direction (rule 3.5).
 pub fn step_after(direction: Angle, step: Angle) -> Angle
     ensures { λ r. ⌜ r .0 ≡ stepAfter (step .0) (direction .0) ⌝ }
 {
@@ -31,7 +31,7 @@ pub fn step_after(direction: Angle, step: Angle) -> Angle
     Angle((sum % AROUND) as u16)
 }
 
-// So many steps past a direction.
+// So many steps past a direction (rule 3.5).
 pub fn steps_past(direction: Angle, step: Angle, steps: u16) -> Angle
     ensures { λ r. ⌜ r .0 ≡ stepsPast (step .0) steps (direction .0) ⌝ }
 {
@@ -39,7 +39,7 @@ pub fn steps_past(direction: Angle, step: Angle, steps: u16) -> Angle
     Angle(((direction.0 as u32 + way) % AROUND) as u16)
 }
 
-// The whole steps in an angle, none where the step is 0.
+// The whole steps in an angle, none where the step is 0 (rule 1.4).
 fn steps_in(angle: u16, step: Angle) -> u16
     ensures { λ r. ⌜ (r ≡ angle / step .0) × (r ≤ angle) ⌝ }
 {
@@ -49,7 +49,7 @@ fn steps_in(angle: u16, step: Angle) -> u16
     angle / step.0
 }
 
-// The shots of a sector that begins one step after the stop before it and ends at its own stop.
+// The shots of a sector that begins one step after the stop before it and ends at its own stop (rule 3.5).
 pub fn shots_after(before: Angle, stop: Angle, step: Angle) -> u16
     ensures { λ r. ⌜ r ≡ shotsTo (step .0) (stepAfter (step .0) (before .0)) (stop .0) ⌝ }
 {
@@ -58,14 +58,14 @@ pub fn shots_after(before: Angle, stop: Angle, step: Angle) -> u16
     steps_in(ahead as u16, step) + 1
 }
 
-// The shots of one revolution.
+// The shots of one revolution (rule 3.4).
 pub fn revolution_shots(step: Angle) -> u16
     ensures { λ r. ⌜ r ≡ revolutionShots (step .0) ⌝ }
 {
     steps_in(CIRCLE, step)
 }
 
-// The direction is a multiple of the step.
+// The direction is a multiple of the step (rule 3.3).
 pub fn is_multiple(direction: Angle, step: Angle) -> bool
     ensures { λ r. ⌜ r ≡ isMultiple (step .0) (direction .0) ⌝ }
 {
@@ -75,7 +75,7 @@ pub fn is_multiple(direction: Angle, step: Angle) -> bool
     direction.0 % step.0 == 0
 }
 
-// Whole steps go round.
+// Whole steps go round (rule 2.1).
 pub fn divides_circle(step: Angle) -> bool
     ensures { λ r. ⌜ r ≡ dividesCircle (step .0) ⌝ }
 {

@@ -3,7 +3,7 @@ ghost use mathlib.Core.Path.{_≡_};
 ghost use Rattle.units.specs.Times.{shotTime};
 use crate::Time;
 
-// When shot k is fired; the rate is the running speed times the shots of a revolution.
+// When shot k is fired; the rate is the running speed times the shots of a revolution (rule 3.7).
 pub fn shot_time(start: Time, rate: u32, k: u16) -> Time
     ensures { λ r. ⌜ r .0 ≡ shotTime (start .0) rate k ⌝ }
 {

@@ -1,4 +1,4 @@
--- The bits of a mask, of any width.
+-- Technical: no rule stands here. The bits of a mask, of any width.
 use mathlib.Core.Bool.{Bool}
 use Prim.Native.Nat.{ℕ, _/_, _%_, _^_}
 use lib.Dec.{eqb}

@@ -1,4 +1,4 @@
--- A lent buffer: words laid over its front or at a place, while all else in it keeps its contents.
+-- Technical: no rule stands here. A lent buffer: words laid over its front or at a place, while all else in it keeps its contents.
 use mathlib.Core.Path.{_≡_}
 use mathlib.Core.List.{List, [], _++_}
 use Prim.Native.Nat.{ℕ, zero, suc, _+_}

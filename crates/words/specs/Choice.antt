@@ -1,4 +1,4 @@
--- A choice by a test, as the rules read it.
+-- Technical: no rule stands here. A choice by a test, as the rules read it.
 use mathlib.Core.Bool.{Bool, true, false}
 
 infix 5 if_then_else_

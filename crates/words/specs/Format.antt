@@ -1,4 +1,4 @@
--- Formats: one description that says how fields are laid out and how they are read back.
+-- Technical: no rule stands here. Formats: one description that says how fields are laid out and how they are read back.
 -- A is what a reader finds, with a run of words as its place and length; F is what is laid out, with the words themselves.
 use Prim.Native.Nat.{ℕ, zero, suc, _+_, _≤_}
 use mathlib.Core.Path.{_≡_}

@@ -1,4 +1,4 @@
--- Tests and counts over a list.
+-- Technical: no rule stands here. Tests and counts over a list.
 use mathlib.Core.Bool.{Bool, true, false, _&&_}
 use mathlib.Core.List.{List, [], _∷_}
 use Prim.Native.Nat.{ℕ, _+_}

@@ -1,4 +1,4 @@
--- Numbers for no: the table of a call as data, and the number that it gives.
+-- Technical: no rule stands here. Numbers for no: the table of a call as data, and the number that it gives.
 use mathlib.Core.Bool.{Bool}
 use mathlib.Core.List.{List, [], _∷_}
 use Prim.Native.Nat.{ℕ}

@@ -1,5 +1,5 @@
--- Parsers over lists of words. A parser is handed the place it stands at and the words from there on, and finds that the words end
--- early, or a value with the place and the words behind it.
+-- Technical: no rule stands here. Parsers over lists of words. A parser is handed the place it stands at and the words from there on, and
+-- finds that the words end early, or a value with the place and the words behind it.
 use Prim.Native.Nat.{ℕ, zero, suc, _+_}
 use mathlib.Core.List.{List, [], _∷_}
 use mathlib.Core.Bool.{Bool, true, false}

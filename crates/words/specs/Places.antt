@@ -1,4 +1,5 @@
--- Words by their places in a list. A place one past the end says that the words have ended early, and stays so.
+-- Technical: no rule stands here. Words by their places in a list. A place one past the end says that the words have ended early, and stays
+-- so.
 use mathlib.Core.Bool.{Bool}
 use mathlib.Core.List.{List}
 use Prim.Native.Nat.{ℕ, _+_, _-_}

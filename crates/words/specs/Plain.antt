@@ -1,4 +1,4 @@
--- What is promised of the functions on plain words.
+-- Technical: no rule stands here. What is promised of the functions on plain words.
 use mathlib.Core.Path.{_≡_}
 use mathlib.Core.List.{List}
 use Prim.Native.Nat.{ℕ, _*_}

@@ -1,4 +1,4 @@
--- Bench figures: what the definitions give beside what document 01 says, row by row.
+-- Technical: no rule stands here. Bench figures: what the definitions give beside what the rules say, row by row.
 use mathlib.Core.Path.{_≡_}
 use mathlib.Core.List.{List, map}
 use Prim.Native.Nat.{ℕ}

@@ -1,4 +1,4 @@
--- A word that is given, or absent.
+-- Technical: no rule stands here. A word that is given, or absent.
 use mathlib.Core.Bool.{Bool, true, false}
 use mathlib.Core.List.{List, [], _∷_, _++_}
 use Prim.Native.Nat.{ℕ}

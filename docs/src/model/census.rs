@@ -8,7 +8,7 @@ use std::collections::BTreeMap;
 
 const CALLS: [&str; 7] = ["request", "revolution", "normal plan", "read", "stretch", "fresh state", "plain profile"];
 
-/// The refusals of each call in the order in which document 01 lists them, 0 for none before them.
+/// The refusals of each call in the order in which the rules list them, 0 for none before them.
 const REFUSALS: [&[u16]; 7] = [
     &[0, 1, 2, 3, 4, 5, 6],
     &[0, 1, 7, 8, 6],

@@ -1,5 +1,5 @@
 // The format of the trials: words as bytes, cases out of the input, lists and buffers, states and readings as words, and
-// the lines. The line's form is the one that document 01 gives for the program.
+// the lines. The line's form is the program's (rule 7.11).
 
 use crate::plan::{Plan, Sector};
 use crate::reader::Reading;
@@ -188,8 +188,7 @@ pub fn reading_words(reading: &Reading) -> Vec<u16> {
     words
 }
 
-/// A line: number, refusal and word count, "both decimal, then the words as four capital hex digits, with single spaces
-/// between".
+/// A line (rule 7.11).
 pub fn push_line(output: &mut Vec<u8>, number: usize, refusal: u16, words: &[u16]) {
     const DIGITS: &[u8; 16] = b"0123456789ABCDEF";
     output.extend_from_slice(format!("{} {} {}", number, refusal, words.len()).as_bytes());

@@ -1,4 +1,4 @@
-// A model of the rules of document 01, in its words: it makes cases, answers them, makes input for the
+// A model of the rules: it makes cases, answers them, makes input for the
 // program and answers that too. Build: rustc --edition 2021 -C opt-level=3 main.rs -o model; tests: rustc --test.
 
 mod case_parts;

@@ -1,4 +1,4 @@
-// Document 01, "Plans and shots": angle steps, active sectors, the walk over the shots of a revolution, and the normal
+// Rules, section 3: angle steps, active sectors, the walk over the shots of a revolution, and the normal
 // plan with its refusals 9 to 11. Angles are sixteenths of a degree.
 
 /// A full circle.
@@ -15,17 +15,17 @@ pub type Plan = [Sector; 8];
 pub const UNUSED: Sector = Sector { function: 0, stop: 0 };
 pub const PLAN_OF_ZEROS: Plan = [UNUSED; 8];
 
-/// "angle step 1 to 64 that divides 5760 (23 values)"
+/// One of the 23 steps (rule 2.1).
 pub fn is_angle_step(step: u16) -> bool {
     (1..=64).contains(&step) && CIRCLE % step == 0
 }
 
-/// "One revolution has N = 5760 ÷ step shots."
+/// N (rule 3.4).
 pub fn shots_per_revolution(step: u16) -> usize {
     usize::from(CIRCLE / step)
 }
 
-/// "Active sectors are those before the first function 0."
+/// Rule 3.1.
 pub fn active_sectors(plan: &Plan) -> &[Sector] {
     let mut count = 0;
     while count < plan.len() && plan[count].function != 0 {
@@ -34,12 +34,12 @@ pub fn active_sectors(plan: &Plan) -> &[Sector] {
     &plan[..count]
 }
 
-/// "active stops ... strictly increase"
+/// Rule 3.3.
 pub fn stops_increase(active: &[Sector]) -> bool {
     active.windows(2).all(|pair| pair[0].stop < pair[1].stop)
 }
 
-/// "each is a multiple of the step"
+/// Rule 3.3.
 pub fn stops_are_multiples(active: &[Sector], step: u16) -> bool {
     active.iter().all(|sector| sector.stop % step == 0)
 }
@@ -53,8 +53,7 @@ pub struct Shot {
 
 /// The shots of one revolution of a valid plan, in the order in which they are fired.
 ///
-/// "Sector 0 begins one step after the last active stop, modulo 5760; each other sector one step after the stop before
-/// it. A sector ends at its stop, included."
+/// It goes step by step from one step behind the stop before to the sector's own (rules 3.5 and 3.6).
 pub fn walk_of_shots(plan: &Plan, step: u16) -> Vec<Shot> {
     let active = active_sectors(plan);
     let mut shots = Vec::new();
@@ -71,7 +70,7 @@ pub fn walk_of_shots(plan: &Plan, step: u16) -> Vec<Shot> {
     shots
 }
 
-/// The refusal of the normal plan call, 0 for none; "the others as numbered": 9, 10, 11.
+/// The refusal of the normal plan call, 0 for none: 9, 10, 11 by size (rule 6.1).
 pub fn normal_plan_refusal(step: u16, plan: &Plan) -> u16 {
     if !is_angle_step(step) {
         return 9;
@@ -90,8 +89,7 @@ pub fn normal_plan_refusal(step: u16, plan: &Plan) -> u16 {
 
 /// The normal plan call: its refusal and the plan handed back, of zeros where it refuses.
 ///
-/// "The normal plan joins neighbours of equal function in list order, keeping the later stop. First and last are not
-/// joined. Unused entries become 0/0."
+/// Neighbours of one function become one sector with the later stop (rules 3.10 and 3.11).
 pub fn normal_plan(step: u16, plan: &Plan) -> (u16, Plan) {
     let refusal = normal_plan_refusal(step, plan);
     if refusal != 0 {

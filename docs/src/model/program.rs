@@ -1,13 +1,13 @@
-// Document 01, the program at the end of "Bench figures": records on standard input, a line for each on standard output.
+// Rules 7.10 and 7.11, the program: records on standard input, a line for each on standard output.
 
 use crate::format;
 use crate::services;
 use crate::state::State;
 
-/// "It lends each request room for every answer."
+/// More than every answer has.
 const ROOM: usize = 8;
 
-/// "reads ... a byte n, then n words, high byte first, repeated, from a fresh state"
+/// Record after record, from a fresh sensor on.
 pub fn run(input: &[u8]) -> Vec<u8> {
     let mut output = b"nr no n words\n".to_vec();
     let mut state = State::fresh();
@@ -16,7 +16,7 @@ pub fn run(input: &[u8]) -> Vec<u8> {
     while place < input.len() {
         let length = 2 * usize::from(input[place]);
         place += 1;
-        // "A record cut by the end has no line of its own and prints `end short` instead of `end`."
+        // the end cuts it
         if input.len() - place < length {
             output.extend_from_slice(b"end short\n");
             return output;

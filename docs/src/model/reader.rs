@@ -1,4 +1,4 @@
-// Document 01, "A revolution and its profile", the host's side: the reading of a profile with refusals 12 to 16, the
+// Rules 5.10 to 5.15, the host's side: the reading of a profile with refusals 12 to 16, the
 // stretch of a sector's points and the number beside it, with refusal 17.
 
 use crate::revolution::has_bit;
@@ -17,7 +17,7 @@ pub struct SectorReading {
     pub last_direction: Option<u16>,
 }
 
-/// "A refused reading has every field absent and each place and length 0": that is the default.
+/// The default is a refused one (rule 5.14).
 #[derive(Clone, Copy, PartialEq, Eq, Debug, Default)]
 pub struct Reading {
     pub mask: Option<u16>,
@@ -69,7 +69,7 @@ impl Layout<'_> {
             first_direction: self.field(7)?,
             ..SectorReading::default()
         };
-        // "With bit 5 clear, or bits 8 to 10 clear, the stretch is empty and stands at the place reached."
+        // rules 5.10 and 5.11
         let words_per_point = (8..=10).filter(|bit| has_bit(self.mask, *bit)).count();
         sector.points_place = self.place;
         sector.points_length = match sector.points {
@@ -92,11 +92,9 @@ pub fn read(words: &[u16]) -> (u16, Reading) {
 }
 
 fn reading_or_refusal(words: &[u16]) -> Result<Reading, u16> {
-    // 12: "no word, or first is not 8301h"
     if words.is_empty() || words[0] != 0x8301 {
         return Err(12);
     }
-    // 13: "under 3 words, mask 0 or with bit 14 or 15, high byte of word 2 not 1, or S not 1 to 8"
     if words.len() < 3 {
         return Err(13);
     }
@@ -106,11 +104,10 @@ fn reading_or_refusal(words: &[u16]) -> Result<Reading, u16> {
     if mask == 0 || mask & 0xC000 != 0 || high_byte != 1 || !(1..=8).contains(&sector_count) {
         return Err(13);
     }
-    // 14: "a bit of 8 to 10 set, bit 5 clear"
     if (8..=10).any(|bit| has_bit(mask, bit)) && !has_bit(mask, 5) {
         return Err(14);
     }
-    // 15: "words end early"
+    // 15 comes of every word that is missing
     let mut layout = Layout { words, mask, place: 3 };
     let mut reading = Reading { mask: Some(mask), sector_count, ..Reading::default() };
     reading.sent = layout.field(0)?;
@@ -120,27 +117,25 @@ fn reading_or_refusal(words: &[u16]) -> Result<Reading, u16> {
         reading.sectors[place] = layout.sector()?;
     }
     reading.senstat = [layout.field(13)?, layout.field(13)?];
-    // 16: "words left over"
     if layout.place != words.len() {
         return Err(16);
     }
     Ok(reading)
 }
 
-/// The number beside the stretch: "reads the words first, so 12 to 16 come before 17".
+/// The number beside the stretch: the reader's own come first (rule 5.13).
 pub fn stretch_refusal(words: &[u16], place: u16) -> u16 {
     let (refusal, reading) = read(words);
     if refusal != 0 {
         return refusal;
     }
-    // "place not below S"
     if usize::from(place) >= reading.sector_count {
         return 17;
     }
     0
 }
 
-/// The points of the sector at a place; "a refused stretch is empty".
+/// The points of the sector at a place; none where there is a number for no (rules 5.13 and 5.14).
 pub fn stretch(words: &[u16], place: u16) -> &[u16] {
     if stretch_refusal(words, place) != 0 {
         return &[];

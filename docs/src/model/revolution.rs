@@ -1,4 +1,4 @@
-// Document 01, "A revolution and its profile", the sensor's side: the call of a revolution with refusals 1, 7, 8 and 6,
+// Rules 5.1 to 5.8, the sensor's side: the call of a revolution with refusals 1, 7, 8 and 6,
 // and the words of a profile in their order.
 
 use crate::plan;
@@ -9,7 +9,7 @@ pub fn has_bit(mask: u16, bit: u16) -> bool {
     mask >> bit & 1 == 1
 }
 
-/// A revolution: "Order ... 1, 7, 8, 6". The profile goes to the front of the buffer, the words behind it stay.
+/// A revolution: refusals 1, 7, 8, 6 in this order (rule 6.1). The profile goes to the front of the buffer, the words behind it stay.
 pub fn revolution(state: &State, start_time: u16, distances: &[u16], echoes: &[u16], buffer: &mut [u16]) -> Outcome {
     if !state.in_ranges() {
         return Outcome::refused(1, state);
@@ -21,8 +21,7 @@ pub fn revolution(state: &State, start_time: u16, distances: &[u16], echoes: &[u
     if distances.len() != shots || echoes.len() != shots {
         return Outcome::refused(8, state);
     }
-    // "The counter rises by one. With a job, number sent rises by one (modulo 65536 if endless) and a profile is
-    // written; a counted job ends at none left."
+    // rules 5.2 and 5.3
     let mut next = *state;
     next.counter = state.counter.wrapping_add(1);
     let profile = match state.job {
@@ -46,15 +45,14 @@ pub fn revolution(state: &State, start_time: u16, distances: &[u16], echoes: &[u
     Outcome { refusal: 0, count: profile.len(), state: next }
 }
 
-/// "Shot k (from 0) is fired at floor(1000 × k ÷ (running speed × N)) ms after the revolution's start time, sum modulo
-/// 65536."
+/// Rule 3.7.
 fn time_of_shot(state: &State, start_time: u16, shot: usize) -> u16 {
     let shots_per_second = usize::from(state.running_speed) * plan::shots_per_revolution(state.step);
     let after_start = 1000 * shot / shots_per_second;
     ((usize::from(start_time) + after_start) % 65536) as u16
 }
 
-/// The words of a profile; the state is the one after the rise of the counter.
+/// The words of a profile in the order of rules 5.4 to 5.7; the state is the one after the rise of the counter.
 fn profile_words(state: &State, mask: u16, sent: u16, start_time: u16, distances: &[u16], echoes: &[u16]) -> Vec<u16> {
     let active = plan::active_sectors(&state.working_plan);
     let shots = plan::walk_of_shots(&state.working_plan, state.step);
@@ -66,13 +64,13 @@ fn profile_words(state: &State, mask: u16, sent: u16, start_time: u16, distances
     };
     give(0, sent);
     give(1, state.counter);
-    give(2, 0); // "layer (always 0)"
+    give(2, 0);
     for (number, sector) in active.iter().enumerate() {
         // the numbers of this sector's shots, in order
         let own: Vec<usize> = (0..shots.len()).filter(|shot| shots[*shot].sector == number).collect();
         let first = own[0];
         let last = own[own.len() - 1];
-        // "Only function 3 gives points."
+        // rule 3.8
         let points: &[usize] = if sector.function == 3 { &own } else { &[] };
         give(3, number as u16);
         give(4, state.step);

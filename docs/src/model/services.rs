@@ -1,4 +1,4 @@
-// Document 01, "Services": the table of the 13 services, what each does and answers, and refusals 1 to 6 of a request.
+// Rules, section 4: the table of the 13 services, what each does and answers, and refusals 1 to 6 of a request.
 
 use crate::measure_checks;
 use crate::plan;
@@ -57,7 +57,7 @@ pub fn service_of(code: u16) -> Option<&'static Service> {
     TABLE.iter().find(|service| service.code == code)
 }
 
-/// A request: "Request order 1 to 6". The answer goes to the front of the buffer, the words behind it stay.
+/// A request: refusals 1 to 6 in their order (rule 6.1). The answer goes to the front of the buffer, the words behind it stay.
 pub fn request(state: &State, words: &[u16], buffer: &mut [u16]) -> Outcome {
     if !state.in_ranges() {
         return Outcome::refused(1, state);
@@ -83,8 +83,7 @@ pub fn request(state: &State, words: &[u16], buffer: &mut [u16]) -> Outcome {
     Outcome { refusal: 0, count: answer.len(), state: next }
 }
 
-/// Changes the state and gives the whole answer, its code included: "A response code is the request code plus 8000h."
-/// "What a service isn't said to change stays."
+/// Changes the state and gives the whole answer, its code included (rules 4.1 to 4.4).
 fn serve(state: &mut State, words: &[u16]) -> Vec<u16> {
     let mut answer = vec![words[0] + 0x8000];
     match words[0] {
@@ -99,7 +98,7 @@ fn serve(state: &mut State, words: &[u16]) -> Vec<u16> {
         SET_FUNCTION => answer.extend(set_function(state, words[1], words[2], words[3], words[4])),
         GET_FUNCTION => answer.extend(get_function(state, words[1])),
         GET_PROFILE => {
-            // "If the mask is then 0, the answer is 8301h alone and the job stays. Otherwise ... no word is written"
+            // the code alone, or no word where a job starts
             if start_job(state, words[1], words[2]) {
                 answer.clear();
             }
@@ -130,14 +129,14 @@ fn serve(state: &mut State, words: &[u16]) -> Vec<u16> {
     answer
 }
 
-/// "bits 2 and 3 keep their value, the other six come from the low byte; the high byte is ignored"
+/// Rule 4.5.
 fn set_signal(state: &mut State, word: u16) {
     let low_byte = (word & 0x00FF) as u8;
     let kept = 0b0000_1100;
     state.port = (state.port & kept) | (low_byte & !kept);
 }
 
-/// "Another item, or any value out of range, gives FFFFh and stores none of the three."
+/// Rule 4.6.
 fn set_config(state: &mut State, item: u16, id: u16, speed: u16, step: u16) -> u16 {
     let all_fit =
         item == CONFIG_ITEM && state::id_in_range(id) && state::speed_in_range(speed) && plan::is_angle_step(step);
@@ -150,7 +149,7 @@ fn set_config(state: &mut State, item: u16, id: u16, speed: u16, step: u16) -> u
     item
 }
 
-/// "GET_CONFIG with another item than 0010h: FFFFh."
+/// Rule 4.7.
 fn get_config(state: &State, item: u16) -> Vec<u16> {
     if item != CONFIG_ITEM {
         return vec![NO_SUCH];
@@ -158,8 +157,7 @@ fn get_config(state: &State, item: u16) -> Vec<u16> {
     vec![item, state.id, state.configured_speed, state.step]
 }
 
-/// "sector above 7 becomes 7; function 2 or above 4 becomes 0; stop becomes its remainder by 5760. Flash = 1 then
-/// copies the whole working plan, this change included, to the stored one."
+/// Rule 4.8.
 fn set_function(state: &mut State, sector: u16, function: u16, stop: u16, flash: u16) -> [u16; 3] {
     let sector = if sector > 7 { 7 } else { sector };
     let function = if function == 2 || function > 4 { 0 } else { function };
@@ -171,7 +169,7 @@ fn set_function(state: &mut State, sector: u16, function: u16, stop: u16, flash:
     [sector, function, stop]
 }
 
-/// "GET_FUNCTION with sector above 7: three times FFFFh."
+/// Rule 4.9.
 fn get_function(state: &State, sector: u16) -> [u16; 3] {
     if sector > 7 {
         return [NO_SUCH; 3];
@@ -180,8 +178,7 @@ fn get_function(state: &State, sector: u16) -> [u16; 3] {
     [sector, found.function, found.stop]
 }
 
-/// GET_PROFILE: whether there is a new job. "bits 14 and 15 are cleared. If the mask is then 0, ... the job stays.
-/// Otherwise a new job, number sent 0, replaces the old one ...; number 0 is endless."
+/// GET_PROFILE: whether there is a new job (rule 4.10).
 fn start_job(state: &mut State, number: u16, mask: u16) -> bool {
     let mask = mask & 0x3FFF;
     if mask == 0 {
@@ -193,7 +190,7 @@ fn start_job(state: &mut State, number: u16, mask: u16) -> bool {
 
 fn reset(state: &mut State, level: u16) {
     match level {
-        // "0 and 1 give IDLE, running speed 0, working plan from the stored one, port 0, counter 0, no job."
+        // rule 4.12
         0 | 1 => {
             state.mode = Mode::Idle;
             state.running_speed = 0;
@@ -202,26 +199,25 @@ fn reset(state: &mut State, level: u16) {
             state.counter = 0;
             state.job = Job::Absent;
         }
-        // "2 turns MEASURE into ROTATE with no job, and does nothing in other modes."
+        // rule 4.13
         2 => {
             if state.mode == Mode::Measure {
                 state.mode = Mode::Rotate;
                 state.job = Job::Absent;
             }
         }
-        // "Other levels change nothing."
         _ => {}
     }
 }
 
-/// "TRANS_IDLE, which gives IDLE at running speed 0"; "any leaving of MEASURE, ends the job"
+/// Rules 4.14 and 4.4.
 fn go_idle(state: &mut State) {
     state.mode = Mode::Idle;
     state.running_speed = 0;
     state.job = Job::Absent;
 }
 
-/// "0 takes the configured speed, 5 to 20 that speed, giving ROTATE; others act as TRANS_IDLE"
+/// Rule 4.15.
 fn go_rotate(state: &mut State, speed: u16) {
     if speed != 0 && !state::speed_in_range(speed) {
         go_idle(state);
@@ -232,7 +228,7 @@ fn go_rotate(state: &mut State, speed: u16) {
     state.job = Job::Absent;
 }
 
-/// "Error 0 gives MEASURE and leaves a running job; others stay in ROTATE."
+/// Rule 4.16.
 fn go_measure(state: &mut State) -> u16 {
     let error = measure_checks::measure_error(&state.working_plan, state.step, state.running_speed);
     if error == 0 {

@@ -1,4 +1,4 @@
-// Document 01, "State and ranges": what the sensor holds, the range of each part, and the fresh state.
+// Rules, section 2: what the sensor holds, the range of each part, and the fresh state.
 
 use crate::measure_checks;
 use crate::plan::{self, Plan, Sector};
@@ -10,7 +10,7 @@ pub enum Mode {
     Measure,
 }
 
-/// "A profile job is absent, counted or endless, with its mask and number sent."
+/// A profile job (rule 2.7).
 #[derive(Clone, Copy, PartialEq, Eq, Debug)]
 pub enum Job {
     Absent,
@@ -41,12 +41,13 @@ pub struct Outcome {
 }
 
 impl Outcome {
-    /// "It writes nothing, hands the state back as it came, and gives count 0"
+    /// The state as it came, and no word (rule 6.2).
     pub fn refused(refusal: u16, state: &State) -> Outcome {
         Outcome { refusal, count: 0, state: *state }
     }
 }
 
+/// Rule 2.1, and so the speeds below.
 pub fn id_in_range(id: u16) -> bool {
     (1..=254).contains(&id)
 }
@@ -55,19 +56,18 @@ pub fn speed_in_range(speed: u16) -> bool {
     (5..=20).contains(&speed)
 }
 
-/// "8 sectors each, function 0, 1, 3 or 4, stop 0 to 5759", the unused ones too.
+/// Every entry, the unused ones too (rule 2.2).
 fn plan_in_range(plan: &Plan) -> bool {
     plan.iter().all(|sector| [0, 1, 3, 4].contains(&sector.function) && sector.stop < plan::CIRCLE)
 }
 
-/// "Its mask is not 0 and has bits 14 and 15 clear."
+/// A mask that a job may have (rule 2.7).
 fn job_mask_in_range(mask: u16) -> bool {
     mask != 0 && mask & 0xC000 == 0
 }
 
 impl State {
-    /// "Fresh state: id 1, speed 10, step 8, both plans sector 0 function 3 stop 5752 and the rest 0/0, IDLE, port 0,
-    /// counter 0, no job."
+    /// A sensor that was just switched on (rule 2.9).
     pub fn fresh() -> State {
         let mut plan = plan::PLAN_OF_ZEROS;
         plan[0] = Sector { function: 3, stop: 5752 };
@@ -85,7 +85,7 @@ impl State {
         }
     }
 
-    /// Whether refusal 1, "state outside its ranges", does not apply.
+    /// Whether refusal 1 is not due (rule 2.8).
     pub fn in_ranges(&self) -> bool {
         id_in_range(self.id)
             && speed_in_range(self.configured_speed)
@@ -97,7 +97,7 @@ impl State {
             && self.job_in_range()
     }
 
-    /// "Running speed: 0 in IDLE, else 5 to 20."
+    /// Rule 2.4.
     fn running_speed_in_range(&self) -> bool {
         match self.mode {
             Mode::Idle => self.running_speed == 0,
@@ -105,13 +105,13 @@ impl State {
         }
     }
 
-    /// "In MEASURE the working plan passes all four checks of TRANS_MEASURE."
+    /// Rule 2.5.
     fn measures_only_what_passes(&self) -> bool {
         self.mode != Mode::Measure
             || measure_checks::measure_error(&self.working_plan, self.step, self.running_speed) == 0
     }
 
-    /// "A job exists only in MEASURE. ... A counted job has at least 1 left, and left plus sent is at most 65535."
+    /// Rule 2.7.
     fn job_in_range(&self) -> bool {
         match self.job {
             Job::Absent => true,
@@ -125,7 +125,7 @@ impl State {
         }
     }
 
-    /// "SENSTAT: high word 0, low word 1 IDLE, 2 ROTATE, 3 MEASURE"
+    /// Rules 2.3 and 4.2.
     pub fn senstat(&self) -> [u16; 2] {
         match self.mode {
             Mode::Idle => [0, 1],

@@ -1,4 +1,4 @@
-// Stored cases of the normal plan: document 01, "Plans and shots" and refusals 9 to 11, alone and in pairs.
+// Stored cases of the normal plan: rules 3.1 to 3.11 and refusals 9 to 11, alone and in pairs.
 
 use crate::case_parts;
 use crate::plan::{self, Plan};
@@ -84,7 +84,7 @@ fn faults(cases: &mut Cases) {
     }
 }
 
-/// "no active sector", and words of every kind behind the first function 0.
+/// No active sector, and words of every kind behind the first function 0.
 fn unused_entries(cases: &mut Cases) {
     ask(cases, 8, &plan_of(&[]));
     ask(cases, 8, &plan_of(&[(0, 8), (3, 16)]));

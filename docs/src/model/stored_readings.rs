@@ -1,4 +1,4 @@
-// Stored cases of the reader and of the stretch: document 01, "A revolution and its profile", the host's side, with
+// Stored cases of the reader and of the stretch: rules 5.10 to 5.15, with
 // refusals 12 to 17 alone and in pairs.
 
 use crate::case_parts;

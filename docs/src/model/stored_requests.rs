@@ -1,4 +1,4 @@
-// Stored cases of requests: document 01, "Services", every service in every mode with words at every edge; refusals 1 to 6
+// Stored cases of requests: section 4 of the rules, every service in every mode with words at every edge; refusals 1 to 6
 // alone and in pairs; buffers of every length up to the longest answer's.
 
 use crate::case_parts;
@@ -84,7 +84,7 @@ fn configurations(cases: &mut Cases) {
     for step in all_steps().into_iter().chain(NO_STEPS) {
         ask(cases, &state, &[SET_CONFIG, 0x0010, 9, 19, step]);
     }
-    // "stores none of the three": two and more values that are wrong, each place in turn
+    // none of the three is stored: two and more values that are wrong, each place in turn
     for wrong in 1..16 {
         let word = |bit: u16, good: u16, bad: u16| if wrong >> bit & 1 == 1 { bad } else { good };
         let words = [SET_CONFIG, word(0, 0x0010, 0x0011), word(1, 9, 255), word(2, 19, 21), word(3, 10, 7)];
@@ -328,7 +328,7 @@ fn states_at_edges(cases: &mut Cases) {
     }
 }
 
-/// The bench figures of document 01 that are requests.
+/// The bench figures that are requests.
 fn bench_figures(cases: &mut Cases) {
     let fresh = State::fresh();
     for step in [7, 72, 64, 1] {

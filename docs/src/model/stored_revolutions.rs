@@ -1,4 +1,4 @@
-// Stored cases of revolutions and of profiles by plain numbers: document 01, "A revolution and its profile", with its
+// Stored cases of revolutions and of profiles by plain numbers: section 5 of the rules, with its
 // bench figures, every step, mask bit and number of sectors, the wraps, and refusals 1, 7, 8 and 6 alone and in pairs.
 
 use crate::case_parts::{self, TurnGiven};
@@ -206,7 +206,7 @@ fn states_at_edges(cases: &mut Cases) {
     }
 }
 
-/// "At most 6544": step 2, 5 Hz, eight sectors, 2160 points, all bits.
+/// The longest profile: step 2, 5 Hz, eight sectors, 2160 points, all bits.
 fn largest(cases: &mut Cases) {
     let sectors = [(1, 2), (3, 722), (3, 1442), (1, 1500), (3, 3660), (1, 3662), (3, 4382), (1, 5758)];
     let state = measuring(2, 5, &sectors, 0x3FFF);

@@ -1,4 +1,4 @@
-// Document 01, "State and ranges": every field of a state at the edges of its range and just outside of them, alone, as
+// Rules 2.1 to 2.8: every field of a state at the edges of its range and just outside of them, alone, as
 // words of a state for the stored cases.
 
 use crate::format;

@@ -1,4 +1,4 @@
-// Random input for the program of document 01: records, mostly sensible, that lead through all modes.
+// Random input for the program: records, mostly sensible, that lead through all modes.
 
 use crate::random::Random;
 use crate::random_plans;

@@ -1,5 +1,5 @@
-// Holds the model to every bench figure of document 01, to the program's dialogue printed there, and to what document 01
-// says of the calls together: lengths, reading back, plans that run alike. Run: rustc --edition 2021 --test main.rs.
+// Holds the model to every bench figure of the rules, to the program's dialogue printed there, and to what the rules
+// say of the calls together: lengths, reading back, plans that run alike. Run: rustc --edition 2021 --test main.rs.
 
 use crate::format;
 use crate::fresh_cases;
@@ -259,8 +259,7 @@ fn jobs_count_and_wrap() {
     assert_eq!(turn(&state), (State { counter: 0, ..state }, [0; 5]));
 }
 
-/// "Length in words: 3 + bits set in 0 to 2 + S × bits set in 3 to 7, 11 and 12 + points × bits set in 8 to 10 + 2 if
-/// bit 13. At most 6544."
+/// The length by rule 5.8.
 #[test]
 fn length_of_a_profile() {
     let mut random = Random::new(7);
@@ -284,8 +283,7 @@ fn length_of_a_profile() {
     assert_eq!(longest, 6544);
 }
 
-/// "Put together again means: the layout's order above, filled from the reading's fields and from each sector's stretch
-/// of points".
+/// The words put together again, by rule 5.15.
 fn put_together(words: &[u16], reading: &Reading) -> Vec<u16> {
     let mut again = vec![0x8301];
     again.extend(reading.mask);

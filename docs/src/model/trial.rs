@@ -1,4 +1,4 @@
-// The calls of document 01 as the trials ask them: what a case gives to which call, and the words of its line.
+// The calls of the rules as the trials ask them: what a case gives to which call, and the words of its line.
 
 use crate::format::{self, CaseWords};
 use crate::plan::{self, Plan};
