@@ -18,9 +18,11 @@ use Rattle.layout.specs.Masks.{maskOk}
 use Rattle.state.specs.declared.State.{State}
 use Rattle.state.specs.Ranges.{configOk, inRange}
 use Rattle.state.specs.Replies.{delivered}
+use Rattle.profile.specs.Points.{pointWords}
+use Rattle.profile.specs.Profiles.{pointsOf}
 use Rattle.profile.specs.Revolutions.{revolved, revolutionRefusal, revolutionOf}
 use Rattle.reader.specs.Readings.{headRefusal, bodyOf, readOf}
-use Rattle.reader.specs.Stretches.{stretchRefusalOf}
+use Rattle.reader.specs.Stretches.{stretchRefusalOf, stretchStart}
 use Rattle.dialogue.specs.Records.{recordOf, recordWords}
 use Rattle.dialogue.specs.Lines.{digits, stripped, decimal, spacedHex, lineOf, fitting}
 use Rattle.dialogue.specs.Talks.{sizeOf, lineAt}
@@ -34,8 +36,8 @@ isTaken b = if b then 1 else 0
 
 pub wrong-answers : WrongAnswers
 unfolding over inTurn isStep entryInRange planInRange litShots measureError maskOk configOk inRange delivered revolved
-    revolutionRefusal revolutionOf headRefusal bodyOf readOf stretchRefusalOf recordOf recordWords digits stripped
-    decimal spacedHex lineOf fitting lineAt planRefusal normalisedOf
+    revolutionRefusal revolutionOf headRefusal bodyOf readOf stretchRefusalOf recordOf recordWords digits stripped decimal
+    spacedHex lineOf fitting lineAt planRefusal normalisedOf pointsOf pointWords stretchStart
 wrong-answers =
     record {
       product-cut = λ e. omega (arith, e);
@@ -53,6 +55,8 @@ wrong-answers =
       idle-number = λ e. omega (arith, e);
       fresh-turning = λ e. omega (arith, ap (λ (s : State). s .running) e);
       fresh-stop = λ e. omega (arith, ap (λ (s : State). firstStop (s .working)) e);
+      step-from-elsewhere = λ r after h e. omega (arith, e, ap (λ (l : List ℕ). getD l 3 0) (h .buffer));
+      stretch-at-front = λ words name part e h. omega (arith, ap (λ (p : ℕ × ℕ). p .1) (rw e at (h .stands)));
       place-first = λ e. omega (arith, e);
       place-s = λ e. omega (arith, e);
       number-for-count = λ after h. omega (arith, h .counted);

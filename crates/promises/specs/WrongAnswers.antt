@@ -4,6 +4,8 @@ use mathlib.Core.Path.{_≡_}
 use mathlib.Core.Bool.{true}
 use mathlib.Core.List.{List, [], _∷_}
 use Prim.Native.Nat.{ℕ}
+use base.Fml.{GName}
+use denote.Ref.{RefT, ptr, now}
 use lib.ListN.{length, getD}
 use Rattle.words.specs.Plain.{ProductSays, WordAtSays}
 use Rattle.plan.specs.declared.Plan.{Plan}
@@ -18,14 +20,16 @@ use Rattle.state.specs.declared.Mode.the-variants.{Rotate, Measure}
 use Rattle.state.specs.Modes.{modeNumber}
 use Rattle.state.specs.declared.Job.the-variants.{Absent}
 use Rattle.state.specs.Fields.{withPlans, withDrive}
-use Rattle.state.specs.Fresh.{freshState, FreshSays}
+use Rattle.state.specs.declared.Reply.{Reply}
+use Rattle.state.specs.Fresh.{freshPlan, freshState, FreshSays, measuring}
 use Rattle.services.specs.declared.Served.{Served}
 use Rattle.services.specs.Answers.{Gives, unpacked}
 use Rattle.services.specs.Configuration.{setFunction}
 use Rattle.profile.specs.Figures.{still}
+use Rattle.profile.specs.Revolutions.{RevolutionSays}
 use Rattle.flat.specs.Sent.{ProfileSays}
 use Rattle.reader.specs.Demands.{turnedRound}
-use Rattle.reader.specs.Stretches.{StretchRefusalSays}
+use Rattle.reader.specs.Stretches.{StretchRefusalSays, StretchSays}
 use Rattle.dialogue.specs.declared.Record.the-variants.{Whole}
 use Rattle.dialogue.specs.Records.{TakeRecordSays}
 use Rattle.dialogue.specs.Lines.{WriteLineSays}
@@ -76,6 +80,16 @@ pub record WrongAnswers : Type 0 where
   -- `fresh`: a sensor that turns already; sector 0 up to the last direction of all
   pub fresh-turning : FreshSays (withDrive freshState Rotate 10 Absent) → ⊥
   pub fresh-stop : FreshSays (withPlans freshState (filled (sector 3 5759 ∷ [])) (freshState .stored)) → ⊥
+  -- `revolution`: another step than the one that the points were taken at, 8, in a profile of that word alone
+  pub step-from-elsewhere :
+      (r : Reply) (after : List ℕ) → RevolutionSays (measuring freshPlan 8 10 0x0010) (still 720) (0 ∷ 0 ∷ 0 ∷ 0 ∷ []) after r
+      → getD after 3 0 ≡ 4
+      → ⊥
+  -- `stretch`: at the front of the words, and not where the sector's points are
+  pub stretch-at-front :
+      (words : RefT (List ℕ)) (name : GName) (part : List ℕ) → now words ≡ turnedRound
+      → StretchSays words 0 (record { ptr = ptr words; name = name; now = part })
+      → ⊥
   -- `stretch_refusal`: 17 where the words are refused; a place of S taken, of two sectors
   pub place-first : StretchRefusalSays [] 8 17 → ⊥
   pub place-s : StretchRefusalSays turnedRound 2 0 → ⊥
