@@ -36,8 +36,8 @@ RefusalsChangeNothing =
     (s : State) (g : Scan) (before : List ℕ) → (revolutionOf s g (length before) .reply .refusal ≡ 0 → ⊥)
     → Unchanged s before (revolutionOf s g (length before))
 
--- the table of a revolution's numbers, in their order: state outside its ranges; mode not MEASURE; a list without a word for each shot;
--- buffer shorter than the profile (rule 6.1)
+-- a revolution's numbers in their order, each beside what it is due for: a field of the state is out of its range; the head does not
+-- measure; a list is not one word a shot; the room is less than the profile (rule 6.1)
 abbrev pub numbersForNo : State → Scan → ℕ → List No
 numbersForNo s g room =
     no 1 (not (inRange s))

@@ -24,8 +24,8 @@ RefusalsChangeNothing =
     (s : State) (ws before : List ℕ) → (requestOf s ws (length before) .reply .refusal ≡ 0 → ⊥)
     → Unchanged s before (requestOf s ws (length before))
 
--- the table of numbers 1 to 6: state outside its ranges; no word; code not in the table; wrong number of words; mode not listed; buffer
--- shorter than the answer (rule 6.1)
+-- the numbers 1 to 6, each beside what it is due for: a field of the state is out of its range; nothing is asked; no row has the code; the
+-- row asks for more or fewer words; it does not name the mode; the room is less than the answer (rule 6.1)
 abbrev pub numbersForNo : State → List ℕ → ℕ → List No
 numbersForNo s ws room =
     no 1 (not (inRange s))

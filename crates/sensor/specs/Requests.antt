@@ -13,14 +13,14 @@ use Rattle.state.specs.Replies.{Outcome, Result, refused, delivered, Answered}
 use Rattle.sensor.specs.declared.Service.{Service}
 use Rattle.sensor.specs.Table.{rowOf, serviceOf, allowed, outcomeOf, isListed}
 
--- 3 for a code that is not in the table, 4 for a wrong number of words, 5 for a mode that is not listed (rule 6.1)
+-- 3 where no row has the code, 4 where the row asks for more or fewer words, 5 where it does not name the mode (rule 6.1)
 unfoldable pub serviceRefusal : Service → ℕ → Mode → ℕ
 serviceRefusal v count mode =
     if not (isListed v) then 3 else
     if not (eqb count (rowOf v .wordsIn)) then 4 else
     if not (allowed v mode) then 5 else 0
 
--- 1 for a state outside its ranges, 2 for no word, then 3 to 5; 0 for none (rule 6.1)
+-- 1 where a field of the state is out of its range, 2 where nothing is asked, then 3 to 5; 0 for none (rule 6.1)
 unfoldable pub requestRefusal : State → List ℕ → ℕ
 requestRefusal s ws =
     if not (inRange s) then 1 else
