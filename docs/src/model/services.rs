@@ -57,7 +57,7 @@ pub fn service_of(code: u16) -> Option<&'static Service> {
     TABLE.iter().find(|service| service.code == code)
 }
 
-/// A request: refusals 1 to 6 in their order (rule 6.1). The answer goes to the front of the buffer, the words behind it stay.
+/// A request: refusals 1 to 6 in their order (rules 4.17 and 6.1). The answer goes to the front of the buffer, the words behind it stay.
 pub fn request(state: &State, words: &[u16], buffer: &mut [u16]) -> Outcome {
     if !state.in_ranges() {
         return Outcome::refused(1, state);
@@ -104,6 +104,7 @@ fn serve(state: &mut State, words: &[u16]) -> Vec<u16> {
             }
         }
         CANCEL_PROFILE => {
+            // rule 4.11
             state.job = Job::Absent;
             answer.extend(state.senstat());
         }

@@ -79,6 +79,7 @@ fn fresh_state_is_in_its_ranges() {
     assert_eq!(format::state_words(&fresh), words);
 }
 
+/// Rule 7.1.
 #[test]
 fn bench_angle_steps() {
     let fresh = State::fresh();
@@ -99,6 +100,7 @@ fn bench_angle_steps() {
     }
 }
 
+/// Rule 7.2.
 #[test]
 fn bench_stops() {
     for (stop, becomes) in [(5760, 0), (5761, 1), (65535, 2175)] {
@@ -109,6 +111,7 @@ fn bench_stops() {
     }
 }
 
+/// Rule 7.3.
 #[test]
 fn bench_signal() {
     let (answer, next) = served(&State::fresh(), &[SET_SIGNAL, 0xFFFF]);
@@ -118,6 +121,7 @@ fn bench_signal() {
     assert_eq!(answer, [0x8105, 0x000C]);
 }
 
+/// Rule 7.4.
 #[test]
 fn bench_fresh_plan() {
     let fresh = State::fresh();
@@ -128,6 +132,7 @@ fn bench_fresh_plan() {
     assert_eq!((shots.len(), shots[0].direction, shots[719].direction), (720, 8, 0));
 }
 
+/// Rule 7.5.
 #[test]
 fn bench_mask_0120() {
     let words = profile(&measuring(8, 10, State::fresh().working_plan, 0x0120), 0);
@@ -136,6 +141,7 @@ fn bench_mask_0120() {
     assert_eq!(words[723], 719);
 }
 
+/// Rule 7.6.
 #[test]
 fn bench_two_sectors() {
     let plan = plan_of(&[(1, 1436), (3, 3360)]);
@@ -152,12 +158,14 @@ fn bench_two_sectors() {
     assert_eq!(points[points.len() - 3..], [1439, 3360, 0x8000 + 1439]);
 }
 
+/// Rules 7.7 and 7.8.
 #[test]
 fn bench_errors() {
     assert_eq!(error_of(&rotating(2, 5, plan_of(&[(3, 5758)]))), 2);
     assert_eq!(error_of(&rotating(10, 10, plan_of(&[(3, 5752)]))), 4);
 }
 
+/// Rule 7.9.
 #[test]
 fn bench_normal_plans() {
     let joined = plan_of(&[(3, 2000), (1, 3000)]);
@@ -166,6 +174,7 @@ fn bench_normal_plans() {
     assert_eq!(plan::normal_plan(8, &stays), (0, stays));
 }
 
+/// Rule 7.12.
 #[test]
 fn bench_dialogue() {
     let input = [1, 1, 2, 1, 4, 4, 2, 4, 3, 0, 0, 1, 4, 4, 0];

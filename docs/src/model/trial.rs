@@ -75,8 +75,7 @@ pub fn call_of_case(case: &[u16]) -> Call {
     }
 }
 
-/// "Kind 7 is the revolution of a fresh sensor but for this: its step, working and stored plan and running speed are
-/// those given, its mode is MEASURE, and its job is counted with 1 left, 0 sent and the mask given."
+/// What kind 7 turns (rule 5.9).
 pub fn plain_profile_state(plan: Plan, step: u16, running_speed: u16, mask: u16) -> State {
     State {
         step,
