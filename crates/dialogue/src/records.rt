@@ -1,4 +1,4 @@
-// A record: a byte n, then n words, high byte first (rule 7.10).
+// A record: how many words it has, in one byte, and then these, the high byte of each in front (rule 7.10).
 ghost use mathlib.Core.Path.{_≡_};
 ghost use Prim.Native.Nat.{_+_, _*_, _<_, _≤_};
 ghost use lib.ListN.{length, drop};

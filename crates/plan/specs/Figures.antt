@@ -36,7 +36,7 @@ planRows p speed =
       value = arcAt twoSectors 4 1 .points ∷ arcAt twoSectors 4 1 .first .0 ∷ arcAt twoSectors 4 0 .first .0 ∷ [];
       figure = 481 ∷ 1440 ∷ 3364 ∷ [];
     }
-    -- that plan at 11 Hz: error 1; step 2, stop 5758, 5 Hz: error 2 (rule 7.7)
+    -- the same plan a little too fast: error 1; a whole circle measured at step 2 and 5 Hz: error 2 (rule 7.7)
     ∷ record { value = measureError twoSectors 4 11 ∷ measureError (oneSector 5758) 2 5 ∷ []; figure = 1 ∷ 2 ∷ [] }
     -- step 10 with stop 5752: error 4 (rule 7.8)
     ∷ record { value = measureError (oneSector 5752) 10 10 ∷ []; figure = 4 ∷ [] }

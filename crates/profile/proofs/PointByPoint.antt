@@ -1,4 +1,4 @@
--- Distances as one block and directions as another are other words than the layout's, and so are points with the next shot's echo.
+-- A block of distances in front of one of directions makes other words than the layout, and so does the next shot's echo.
 use mathlib.Core.Path.{_≡_, sym, ap, _∙_}
 use mathlib.Core.List.{List}
 use Prim.Native.Nat.{ℕ}

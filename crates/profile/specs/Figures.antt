@@ -22,7 +22,7 @@ still shots = record { start = 0; distances = replicate shots 0; echoes = replic
 
 abbrev pub profileRows : List Row
 profileRows =
-    -- mask 0120h on the fresh plan: 724 words (rule 7.5)
+    -- the fresh plan's profile of mask 0120h: 724 words (rule 7.5)
     record {
       value = revolutionOf (measuring freshPlan 8 10 0x0120) (still 720) 724 .reply .count ∷ profileLength 0x0120 1 720 ∷ [];
       figure = 724 ∷ 724 ∷ [];

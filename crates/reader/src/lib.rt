@@ -10,7 +10,7 @@ pub use body::read;
 pub use stretches::stretch;
 pub use stretches::stretch_refusal;
 
-// A sector's words, each marked absent where the mask leaves it out, and where its points stand in the words given (rule 5.11).
+// The words of a sector, absent where the mask has no bit for them, and the place of its points in the words given (rule 5.11).
 pub struct SectorReading {
     pub number: Word,
     pub step: Word,

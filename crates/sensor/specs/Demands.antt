@@ -18,7 +18,7 @@ use Rattle.sensor.specs.declared.Service.{Service}
 use Rattle.sensor.specs.Table.{rowOf, response, services, serviceOf, allowed, outcomeOf, isListed, silent}
 use Rattle.sensor.specs.Requests.{outcome, requestOf}
 
--- Demand 1: a refusal writes nothing, hands the state back as it came and counts no word (rule 6.2)
+-- Demand 1: a refusal leaves buffer and state as they were, and counts no word (rule 6.2)
 abbrev pub RefusalsChangeNothing : Type 0
 RefusalsChangeNothing =
     (s : State) (ws before : List ℕ) → (requestOf s ws (length before) .reply .refusal ≡ 0 → ⊥)

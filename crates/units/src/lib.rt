@@ -1,4 +1,4 @@
-// Sixteenths of a degree, 1/256 metre, milliseconds and echo words, kept apart: a type each, and what is done with them (rule 1.3).
+// Angles, distances, times and echoes, kept apart: a type each, and what is done with them (rule 1.3).
 mod directions;
 mod times;
 

@@ -12,7 +12,7 @@ struct Angle(u16);
 #[repr(C)]
 struct Time(u16);
 
-// Nothing checks this declaration against the Rattle source: a slice passes as a pointer and then a length.
+// Nothing checks this declaration against the Rattle source: a slice is handed over as its pointer and its length.
 extern "C" {
     fn slackjib_profile(
         plan: *const u16,
