@@ -8,6 +8,7 @@ pub mod ProfileRows
 -- The functions
 pub mod PointSums
 pub mod Selecting
+pub mod Laps
 pub mod Writing
 pub mod SectorTurns
 pub mod WholeProfile

@@ -5,7 +5,7 @@ use Prim.Native.Nat.{ℕ, _+_, _-_, _≤_, _<_}
 use native.Mathlib.Omega.{arith}
 use lib.ListN.{length, getD, take, drop, length-append}
 use Rattle.words.specs.Buffers.{inTurn, Wrote, Put}
-use Rattle.words.proofs.Puts.{as-long, room, and-put, lent-room, and-lent, turn-fits, turn-put, turns-all, put-first}
+use Rattle.words.proofs.Puts.{as-long, room, and-put, lent-room, and-lent, turn-fits, turns-all, put-first}
 use Rattle.units.specs.declared.Time.{Time}
 use Rattle.units.specs.Directions.{stepsPast}
 use Rattle.units.specs.Times.{shotTime}
@@ -25,11 +25,6 @@ module _ (mask step : ℕ) (g : Scan) (a : Arc) (i to : ℕ) {d₀ d : List ℕ}
   pub point-room : i < a .points → (dir : ℕ) → dir ≡ stepsPast step i (a .first .0)
       → to + length (pointWords mask (getD (g .distances) (a .shot + i) 0) dir (getD (g .echoes) (a .shot + i) 0)) ≤ length d
   point-room h dir e = rw e (turn-fits (pointAt mask step g a) (a .points) all-room so-far h)
-
-  pub point-more : (dir : ℕ) → dir ≡ stepsPast step i (a .first .0) → {d' : List ℕ} {r : ℕ}
-      → Put (pointWords mask (getD (g .distances) (a .shot + i) 0) dir (getD (g .echoes) (a .shot + i) 0)) d to d' r
-      → Put (inTurn (pointAt mask step g a) (i + 1)) d₀ 0 d' r
-  point-more dir e p = turn-put (pointAt mask step g a) (a .points) all-room so-far (rw e at p)
 
   pub points-done : i ≤ a .points → a .points ≤ i → Wrote (pointsOf mask step g a) d₀ d to
   unfolding pointsOf

@@ -1,7 +1,8 @@
 // The points of a sector.
-ghost use Prim.Native.Nat.{_+_, _≤_};
+ghost use Prim.Native.Nat.{_+_, _-_, _*_, _≤_, _<_};
 ghost use lib.ListN.{length};
 ghost use Rattle.words.specs.Buffers.{Put, Wrote};
+ghost use Rattle.units.specs.Directions.{circle};
 ghost use Rattle.profile.specs.Points.{pointWords};
 ghost use Rattle.profile.specs.Profiles.{scan, pointsOf};
 ghost use Rattle.profile.specs.Asked.{PointsAsked};
@@ -9,9 +10,10 @@ use crate::puts::put_selected;
 use layout::bits;
 use plan::Arc;
 use units::Angle;
+use units::CIRCLE;
 use units::Distance;
 use units::Echo;
-use units::steps_past;
+use units::onto_circle;
 
 // The selected words of one point at a place; the place behind them (rule 5.6).
 fn put_point(
@@ -30,7 +32,25 @@ fn put_point(
     put_selected(out, q, mask, bits::ECHO, echo.0)
 }
 
+// How many of the points that are left, from a direction on and a step apart, lie before 5760: the points of its lap, one at the least.
+fn left_in_lap(direction: Angle, step: Angle, left: u16) -> u16
+    requires { ⌜ direction .0 < circle ⌝ }
+    requires { ⌜ 1 ≤ left ⌝ }
+    ensures { λ r. ⌜ (1 ≤ r) × (r ≤ left) ⌝ }
+    ensures { λ r. ⌜ direction .0 + (r - 1) * step .0 < circle ⌝ }
+{
+    if words::product(left - 1, step.0) < (CIRCLE - direction.0) as u32 {
+        return left;
+    }
+    (CIRCLE - 1 - direction.0) / step.0 + 1
+}
+
 // The points of a sector over the front of the buffer, the selected words of each together; how many words they are (rule 5.6).
+//
+// A point's direction is carried from the point before it: one step on, and 5760 off where that is reached (rule 3.5). Tested at each point,
+// every direction would hang on the test before it, and no two points could be made at once. So there are two loops: the inner one goes
+// through a lap, the points before 5760, by adding alone, which lets the compiler make several points at a time; the outer one takes 5760
+// off between two laps.
 pub(crate) fn write_points(
     out: &mut [u16],
     distances: &[u16],
@@ -46,15 +66,24 @@ pub(crate) fn write_points(
     let first = arc.first;
     let shot = arc.shot;
     let count = arc.points;
+    // both below 5760, so that one step on from a direction is a number of 16 bits
+    let by = onto_circle(step);
+    let mut direction = onto_circle(first);
     let mut at: usize = 0;
     let mut i: u16 = 0;
     while i < count {
-        let k = shot as usize + i as usize;
-        let distance = Distance(distances[k]);
-        let direction = steps_past(first, step, i);
-        let echo = Echo(echoes[k]);
-        at = put_point(out, at, mask, distance, direction, echo);
-        i += 1;
+        let end = i + left_in_lap(direction, by, count - i);
+        while i < end {
+            let k = shot as usize + i as usize;
+            let distance = Distance(distances[k]);
+            let echo = Echo(echoes[k]);
+            at = put_point(out, at, mask, distance, direction, echo);
+            direction = Angle(direction.0 + by.0);
+            i += 1;
+        }
+        if CIRCLE <= direction.0 {
+            direction = Angle(direction.0 - CIRCLE);
+        }
     }
     at
 }

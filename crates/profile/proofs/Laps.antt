@@ -1,0 +1,82 @@
+-- The directions of a sector's points by adding, lap by lap: a lap is those points that come before 5760 is reached.
+use mathlib.Core.Path.{_≡_, refl, sym, ap, _∙_}
+use mathlib.Core.List.{List}
+use Prim.Native.Nat.{ℕ, zero, suc, _+_, _-_, _*_, _/_, _%_, _≤_, _<_}
+use native.Mathlib.Nat.{mul-zero, suc-mul, add-mul, mod-add-mod, add-mod-mod, mod-mod, mod-eq-of-lt, mod-eq-sub-mod, div-mul-le-self, div-lt-iff-lt-mul}
+use native.Mathlib.Omega.{arith}
+use lib.ListN.{getD}
+use Rattle.words.specs.Buffers.{Put, inTurn}
+use Rattle.words.proofs.Puts.{turns-none, turn-more, put-then}
+use Rattle.units.specs.Directions.{circle, stepsPast}
+use Rattle.plan.specs.declared.Arc.{Arc}
+use Rattle.profile.specs.Points.{pointWords}
+use Rattle.profile.specs.Profiles.{Scan, pointAt}
+
+-- `left_in_lap`: where not all that are left lie before 5760, there is a step to divide by, and those up to 5759 are fewer
+module _ (direction step left : ℕ) (below : direction < circle) (h : circle - direction ≤ (left - 1) * step) where
+  pub a-step : 0 < step
+  a-step = positive step refl
+    where
+      positive : (n : ℕ) → step ≡ n → 0 < step
+      positive zero e = let none = mul-zero (left - 1) in absurd (omega (arith, rw e at h))
+      positive (suc n) e = omega arith
+
+  pub fewer : (circle - 1 - direction) / step + 1 ≤ left
+  fewer = let q : (circle - 1 - direction) / step < left - 1 = div-lt-iff-lt-mul a-step .1 (omega arith) in omega arith
+
+  pub last-before : direction + ((circle - 1 - direction) / step + 1 - 1) * step < circle
+  last-before =
+      let e : (circle - 1 - direction) / step + 1 - 1 ≡ (circle - 1 - direction) / step = omega arith in
+      rw e (omega (arith, div-mul-le-self (circle - 1 - direction) step))
+
+-- `write_points`: point i and all up to the lap's end lie before 5760
+pub record Lap (step direction i end : ℕ) : Type 0 where
+  pub ahead : i ≤ end
+  pub below : direction + (end - i) * step < circle + step
+
+one-more : (n step : ℕ) → 1 ≤ n → n * step ≡ (n - 1) * step + step
+one-more n step h =
+    let e : n ≡ suc (n - 1) = omega arith in
+    ap (λ (m : ℕ). m * step) e ∙ suc-mul (n - 1) step
+
+pub lap-begun : (step direction i n : ℕ) → 1 ≤ n → direction + (n - 1) * step < circle → Lap step direction i (i + n)
+lap-begun step direction i n some h =
+    let e : i + n - i ≡ n = omega arith in
+    record { ahead = omega arith; below = rw e (omega (arith, one-more n step some)) }
+
+module _ {step direction i end : ℕ} (lap : Lap step direction i end) (more : i < end) where
+  next : (end - i) * step ≡ (end - (i + 1)) * step + step
+  next =
+      let e : end - i - 1 ≡ end - (i + 1) = omega arith in
+      rw e at (one-more (end - i) step (omega arith))
+
+  pub in-lap : direction < circle
+  in-lap = omega (arith, lap .below, next)
+
+  pub lap-on : Lap step (direction + step) (i + 1) end
+  lap-on = record { ahead = omega arith; below = omega (arith, lap .below, next) }
+
+-- the points before point i stand in the buffer, and its direction is carried, 5760 taken off it or not yet
+pub record SoFar (mask step : ℕ) (g : Scan) (a : Arc) (d₀ d : List ℕ) (to carried i : ℕ) : Type 0 where
+  pub put : Put (inTurn (pointAt mask step g a) i) d₀ 0 d to
+  pub here : carried % circle ≡ stepsPast step i (a .first .0)
+
+module _ {mask step : ℕ} {g : Scan} {a : Arc} where
+  pub none-so-far : {d : List ℕ} {direction : ℕ} → direction ≡ a .first .0 % circle → SoFar mask step g a d d 0 direction 0
+  none-so-far e = record { put = turns-none _ _ _; here = rw (e, mod-mod) (ap (λ (n : ℕ). n % circle) (omega arith)) }
+
+  module _ {d₀ d : List ℕ} {to direction i : ℕ} (s : SoFar mask step g a d₀ d to direction i) where
+    pub carried : direction < circle → direction ≡ stepsPast step i (a .first .0)
+    carried h = sym (mod-eq-of-lt h) ∙ s .here
+
+    pub one-on : (shot by : ℕ) → shot ≡ a .shot → by ≡ step % circle → direction < circle → {d' : List ℕ} {r : ℕ}
+        → Put (pointWords mask (getD (g .distances) (shot + i) 0) direction (getD (g .echoes) (shot + i) 0)) d to d' r
+        → SoFar mask step g a d₀ d' r (direction + by) (i + 1)
+    one-on shot by same e h p =
+        record {
+          put = rw turn-more (put-then (omega arith) (s .put) (rw (carried h, same) at p));
+          here = rw (e, add-mod-mod, ← mod-add-mod direction circle step, s .here, mod-add-mod) (ap (λ (n : ℕ). n % circle) (rw add-mul (omega arith)));
+        }
+
+    pub taken-off : circle ≤ direction → SoFar mask step g a d₀ d to (direction - circle) i
+    taken-off h = record { put = s .put; here = sym (mod-eq-sub-mod h) ∙ s .here }
