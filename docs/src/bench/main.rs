@@ -1,4 +1,4 @@
-//! Compares the proved writer with the one in `writer.rs`, word by word, and then times both.
+//! Compares the proved writer with the two of `writer.rs`, word by word, and then times all three, beside a plain copy of the same words.
 mod writer;
 
 use std::hint::black_box;
@@ -80,7 +80,7 @@ const STEPS: [u16; 23] = [1, 2, 3, 4, 5, 6, 8, 9, 10, 12, 15, 16, 18, 20, 24, 30
 // More than the longest profile has.
 const ROOM: usize = 6600;
 
-// What both writers are given.
+// What the writers are given.
 struct Input {
     plan: Vec<u16>,
     step: u16,
@@ -140,17 +140,19 @@ fn damage(numbers: &mut Numbers, input: &mut Input) {
     }
 }
 
-// Both writers give the same count and leave the same words in a buffer of so many; the count.
+// The writers give the same count and leave the same words in a buffer of so many; the count.
 fn agree(input: &Input, before: &[u16], room: usize) -> usize {
     let mut out = before.to_vec();
-    let mut other = before.to_vec();
-    let count = write(writer::profile, input, &mut out[..room]);
-    assert_eq!(count, write(proved, input, &mut other[..room]), "the counts differ");
-    assert!(out == other, "the words differ");
+    let count = write(proved, input, &mut out[..room]);
+    for writer in [writer::by_remainder as Writer, writer::by_adding] {
+        let mut other = before.to_vec();
+        assert_eq!(count, write(writer, input, &mut other[..room]), "the counts differ");
+        assert!(out == other, "the words differ");
+    }
     count
 }
 
-// Compares both writers on many inputs, each with room to spare, with just the room and with one word less.
+// Compares the writers on many inputs, each with room to spare, with just the room and with one word less.
 fn compare(inputs: usize) {
     let mut numbers = Numbers { state: 1 };
     let mut accepted = 0;
@@ -173,13 +175,14 @@ struct Case {
     input: Input,
 }
 
-// A case of so many equal sectors of function 3, all fields of the profile selected.
-fn case(name: &'static str, sectors: u16, step: u16, running: u16) -> Case {
+// A case of so many equal sectors of function 3, all fields of the profile selected. The last of them ends at the given stop, so that the
+// first begins one step behind it.
+fn case(name: &'static str, sectors: u16, last: u16, step: u16, running: u16) -> Case {
     let mut numbers = Numbers { state: 2 };
     let mut plan = Vec::new();
     for k in 1..sectors + 1 {
         plan.push(3);
-        plan.push(5760 / sectors * k - step);
+        plan.push(last - 5760 / sectors * (sectors - k));
     }
     let shots = 5760 / step as usize;
     let input = Input {
@@ -194,13 +197,24 @@ fn case(name: &'static str, sectors: u16, step: u16, running: u16) -> Case {
     Case { name, input }
 }
 
-// Nanoseconds a call. The buffer is not cleared between the calls.
-fn time(writer: Writer, input: &Input, out: &mut [u16], calls: u32) -> f64 {
+// Nanoseconds a call of one of the four: the two writers in Rust, the proved one, and a copy of the words that they leave. The buffer is
+// not cleared between the calls.
+fn time(which: usize, input: &Input, words: &[u16], out: &mut [u16], calls: u32) -> f64 {
+    let writers: [Writer; 3] = [writer::by_remainder, writer::by_adding, proved];
     let begin = Instant::now();
     for _ in 0..calls {
-        black_box(write(writer, black_box(input), black_box(&mut *out)));
+        if which < 3 {
+            black_box(write(writers[which], black_box(input), black_box(&mut *out)));
+        } else {
+            copy(black_box(words), black_box(&mut *out));
+        }
     }
     begin.elapsed().as_nanos() as f64 / calls as f64
+}
+
+#[inline(never)]
+fn copy(words: &[u16], out: &mut [u16]) {
+    out[..words.len()].copy_from_slice(words);
 }
 
 fn median(times: &mut Vec<f64>) -> f64 {
@@ -212,35 +226,43 @@ fn measure(case: &Case, rounds: usize, calls: u32) {
     let mut out = vec![0; ROOM];
     let count = agree(&case.input, &out, ROOM);
     assert!(count > 0, "{} is refused", case.name);
-    let mut rust = Vec::new();
-    let mut rattle = Vec::new();
-    // one round that does not count, and then the two in turn, each first in every other round
-    time(writer::profile, &case.input, &mut out, calls);
-    time(proved, &case.input, &mut out, calls);
+    write(proved, &case.input, &mut out);
+    let words = out[..count].to_vec();
+    let mut times = [Vec::new(), Vec::new(), Vec::new(), Vec::new()];
+    // one round that does not count, and then the four in turn, each first in every fourth round
+    for which in 0..4 {
+        time(which, &case.input, &words, &mut out, calls);
+    }
     for round in 0..rounds {
-        if round % 2 == 0 {
-            rust.push(time(writer::profile, &case.input, &mut out, calls));
-            rattle.push(time(proved, &case.input, &mut out, calls));
-        } else {
-            rattle.push(time(proved, &case.input, &mut out, calls));
-            rust.push(time(writer::profile, &case.input, &mut out, calls));
+        for turn in 0..4 {
+            let which = (round + turn) % 4;
+            times[which].push(time(which, &case.input, &words, &mut out, calls));
         }
     }
-    let (a, b) = (median(&mut rust), median(&mut rattle));
-    println!("| {} | {count} | {a:.0} | {:.0} | {b:.0} | {:.0} | {:.2} |", case.name, rust[0], rattle[0], b / a);
+    print!("| {} | {count} |", case.name);
+    let mut medians = Vec::new();
+    for list in &mut times {
+        medians.push(median(list));
+        print!(" {:.0} | {:.0} |", medians[medians.len() - 1], list[0]);
+    }
+    println!(" {:.2} |", medians[2] / medians[0].min(medians[1]));
 }
 
 fn main() {
     compare(6000);
-    let (rounds, calls) = (31, 2000);
-    println!("{rounds} rounds of {calls} calls of each writer, mask 3FFFh, ns a profile:");
-    println!("| Plan | Words | Rust, median | Rust, least | Rattle, median | Rattle, least | Ratio of medians |");
-    println!("|---|---|---|---|---|---|---|");
+    let (rounds, calls) = (32, 2000);
+    println!("{rounds} rounds of {calls} calls of each, mask 3FFFh, ns a profile, median and least; the ratio is of medians, to the faster of Rust's:");
+    println!("| Plan | Words | Rust by remainder | least | Rust by adding | least | Rattle | least | copy | least | Ratio |");
+    println!("|---|---|---|---|---|---|---|---|---|---|---|");
     let cases = [
-        case("one sector, step 8, 10 Hz", 1, 8, 10),
-        case("eight sectors, step 8, 10 Hz", 8, 8, 10),
-        case("one sector, step 4, 5 Hz", 1, 4, 5),
-        case("eight sectors, step 4, 5 Hz", 8, 4, 5),
+        case("one sector, step 8, 10 Hz", 1, 5752, 8, 10),
+        case("eight sectors, step 8, 10 Hz", 8, 5752, 8, 10),
+        case("one sector, step 4, 5 Hz", 1, 5756, 4, 5),
+        case("eight sectors, step 4, 5 Hz", 8, 5756, 4, 5),
+        case("one sector past 5760, step 8, 10 Hz", 1, 2880, 8, 10),
+        case("eight sectors, one past 5760, step 8, 10 Hz", 8, 5400, 8, 10),
+        case("one sector past 5760, step 4, 5 Hz", 1, 2880, 4, 5),
+        case("eight sectors, one past 5760, step 4, 5 Hz", 8, 5400, 4, 5),
     ];
     for case in &cases {
         measure(case, rounds, calls);

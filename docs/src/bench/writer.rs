@@ -1,4 +1,5 @@
-//! The writer in plain Rust with indexed loops: the inputs, the checks and the words of `slackjib_profile`.
+//! The writer in plain Rust with indexed loops: the inputs, the checks and the words of `slackjib_profile`. It comes in two forms, which
+//! differ in how a point's direction is found: by a remainder for each point, or by adding.
 
 #[derive(Clone, Copy)]
 struct Sector {
@@ -196,7 +197,7 @@ fn point_direction(first: u16, step: u16, i: u16) -> u16 {
     ((first as u32 + i as u32 * step as u32) % 5760) as u16
 }
 
-fn write_points(out: &mut [u16], distances: &[u16], echoes: &[u16], arc: &Arc, step: u16, mask: u16) -> usize {
+fn points_by_remainder(out: &mut [u16], distances: &[u16], echoes: &[u16], arc: &Arc, step: u16, mask: u16) -> usize {
     let mut at = 0;
     for i in 0..arc.points {
         let k = arc.shot as usize + i as usize;
@@ -207,7 +208,32 @@ fn write_points(out: &mut [u16], distances: &[u16], echoes: &[u16], arc: &Arc, s
     at
 }
 
-fn write_sector(
+// One step on from point to point, and 5760 off where it is reached.
+fn points_by_adding(out: &mut [u16], distances: &[u16], echoes: &[u16], arc: &Arc, step: u16, mask: u16) -> usize {
+    let mut at = 0;
+    let mut direction = arc.first;
+    for i in 0..arc.points {
+        let k = arc.shot as usize + i as usize;
+        at = put_if(out, at, is_set(mask, 8), distances[k]);
+        at = put_if(out, at, is_set(mask, 9), direction);
+        at = put_if(out, at, is_set(mask, 10), echoes[k]);
+        direction += step;
+        if direction >= 5760 {
+            direction -= 5760;
+        }
+    }
+    at
+}
+
+fn write_points<const ADDING: bool>(out: &mut [u16], distances: &[u16], echoes: &[u16], arc: &Arc, step: u16, mask: u16) -> usize {
+    if ADDING {
+        points_by_adding(out, distances, echoes, arc, step, mask)
+    } else {
+        points_by_remainder(out, distances, echoes, arc, step, mask)
+    }
+}
+
+fn write_sector<const ADDING: bool>(
     out: &mut [u16],
     distances: &[u16],
     echoes: &[u16],
@@ -223,12 +249,12 @@ fn write_sector(
     at = put_if(out, at, is_set(mask, 5), arc.points);
     at = put_if(out, at, is_set(mask, 6), shot_time(start, rate, arc.shot));
     at = put_if(out, at, is_set(mask, 7), arc.first);
-    at += write_points(&mut out[at..], distances, echoes, arc, step, mask);
+    at += write_points::<ADDING>(&mut out[at..], distances, echoes, arc, step, mask);
     at = put_if(out, at, is_set(mask, 11), shot_time(start, rate, arc.shot + arc.shots - 1));
     put_if(out, at, is_set(mask, 12), arc.last)
 }
 
-fn write_profile(
+fn write_profile<const ADDING: bool>(
     out: &mut [u16],
     plan: &Plan,
     step: u16,
@@ -248,15 +274,13 @@ fn write_profile(
     at = put_if(out, at, is_set(mask, 2), 0);
     for k in 0..count {
         let arc = arc_at(plan, step, k);
-        at += write_sector(&mut out[at..], distances, echoes, start, rate, step, mask, k as u16, &arc);
+        at += write_sector::<ADDING>(&mut out[at..], distances, echoes, start, rate, step, mask, k as u16, &arc);
     }
     at = put_if(out, at, is_set(mask, 13), 0);
     put_if(out, at, is_set(mask, 13), 3)
 }
 
-/// The profile of one revolution; how many words it has, 0 where the call is refused.
-#[inline(never)]
-pub fn profile(
+fn profile<const ADDING: bool>(
     plan: &[u16],
     step: u16,
     running: u16,
@@ -278,5 +302,35 @@ pub fn profile(
     if out.len() < profile_length(mask, active_count(&plan), points) {
         return 0;
     }
-    write_profile(out, &plan, step, running, mask, start, distances, echoes)
+    write_profile::<ADDING>(out, &plan, step, running, mask, start, distances, echoes)
+}
+
+/// The profile of one revolution; how many words it has, 0 where the call is refused.
+#[inline(never)]
+pub fn by_remainder(
+    plan: &[u16],
+    step: u16,
+    running: u16,
+    mask: u16,
+    start: u16,
+    distances: &[u16],
+    echoes: &[u16],
+    out: &mut [u16],
+) -> usize {
+    profile::<false>(plan, step, running, mask, start, distances, echoes, out)
+}
+
+/// The same, with the directions of points by adding.
+#[inline(never)]
+pub fn by_adding(
+    plan: &[u16],
+    step: u16,
+    running: u16,
+    mask: u16,
+    start: u16,
+    distances: &[u16],
+    echoes: &[u16],
+    out: &mut [u16],
+) -> usize {
+    profile::<true>(plan, step, running, mask, start, distances, echoes, out)
 }
