@@ -2,7 +2,8 @@
 use mathlib.Core.Path.{_≡_, refl, sym, ap, _∙_}
 use mathlib.Core.List.{List}
 use Prim.Native.Nat.{ℕ, zero, suc, _+_, _-_, _*_, _/_, _%_, _≤_, _<_}
-use native.Mathlib.Nat.{mul-zero, suc-mul, add-mul, mod-add-mod, add-mod-mod, mod-mod, mod-eq-of-lt, mod-eq-sub-mod, div-mul-le-self, div-lt-iff-lt-mul}
+use native.Mathlib.Nat.{mul-zero, suc-mul, add-mul, div-le-self, div-mul-le-self, div-lt-iff-lt-mul}
+use native.Mathlib.Nat.{mod-mod, mod-add-mod, add-mod-mod, mod-eq-of-lt, mod-eq-sub-mod}
 use native.Mathlib.Omega.{arith}
 use lib.ListN.{getD}
 use Rattle.words.specs.Buffers.{Put, inTurn}
@@ -12,32 +13,35 @@ use Rattle.plan.specs.declared.Arc.{Arc}
 use Rattle.profile.specs.Points.{pointWords}
 use Rattle.profile.specs.Profiles.{Scan, pointAt}
 
--- `left_in_lap`: where not all that are left lie before 5760, there is a step to divide by, and those up to 5759 are fewer
-module _ (direction step left : ℕ) (below : direction < circle) (h : circle - direction ≤ (left - 1) * step) where
-  pub a-step : 0 < step
-  a-step = positive step refl
-    where
-      positive : (n : ℕ) → step ≡ n → 0 < step
-      positive zero e = let none = mul-zero (left - 1) in absurd (omega (arith, rw e at h))
-      positive (suc n) e = omega arith
+one-more : (n step : ℕ) → 1 ≤ n → n * step ≡ (n - 1) * step + step
+one-more n step h =
+    let e : n ≡ suc (n - 1) = omega arith in
+    ap (λ (m : ℕ). m * step) e ∙ suc-mul (n - 1) step
 
-  pub fewer : (circle - 1 - direction) / step + 1 ≤ left
-  fewer = let q : (circle - 1 - direction) / step < left - 1 = div-lt-iff-lt-mul a-step .1 (omega arith) in omega arith
+-- `left_in_lap`, where not all that are left lie before 5760: there is a step to divide by, and `way` is how far the lap still goes
+pub a-step : (n step : ℕ) → 0 < n * step → 0 < step
+a-step n zero h = let none = mul-zero n in absurd (omega arith)
+a-step n (suc step) h = omega arith
 
-  pub last-before : direction + ((circle - 1 - direction) / step + 1 - 1) * step < circle
-  last-before =
-      let e : (circle - 1 - direction) / step + 1 - 1 ≡ (circle - 1 - direction) / step = omega arith in
-      rw e (omega (arith, div-mul-le-self (circle - 1 - direction) step))
+module _ (way step : ℕ) where
+  pub one-more-fits : way < 65535 → way / step + 1 < 65536
+  one-more-fits h = omega (arith, div-le-self way step)
+
+  pub fewer : (left : ℕ) → 1 ≤ left → 0 < step → way ≤ (left - 1) * step → way / step + 1 ≤ left
+  fewer left some p h =
+      let below : way < left * step = omega (arith, one-more left step some) in
+      let q : way / step < left = div-lt-iff-lt-mul p .1 below in
+      omega arith
+
+  pub last-before : (direction : ℕ) → direction + way < circle → direction + (way / step + 1 - 1) * step < circle
+  last-before direction h =
+      let e : way / step + 1 - 1 ≡ way / step = omega arith in
+      rw e (omega (arith, div-mul-le-self way step))
 
 -- `write_points`: point i and all up to the lap's end lie before 5760
 pub record Lap (step direction i end : ℕ) : Type 0 where
   pub ahead : i ≤ end
   pub below : direction + (end - i) * step < circle + step
-
-one-more : (n step : ℕ) → 1 ≤ n → n * step ≡ (n - 1) * step + step
-one-more n step h =
-    let e : n ≡ suc (n - 1) = omega arith in
-    ap (λ (m : ℕ). m * step) e ∙ suc-mul (n - 1) step
 
 pub lap-begun : (step direction i n : ℕ) → 1 ≤ n → direction + (n - 1) * step < circle → Lap step direction i (i + n)
 lap-begun step direction i n some h =
@@ -62,8 +66,8 @@ pub record SoFar (mask step : ℕ) (g : Scan) (a : Arc) (d₀ d : List ℕ) (to 
   pub here : carried % circle ≡ stepsPast step i (a .first .0)
 
 module _ {mask step : ℕ} {g : Scan} {a : Arc} where
-  pub none-so-far : {d : List ℕ} {direction : ℕ} → direction ≡ a .first .0 % circle → SoFar mask step g a d d 0 direction 0
-  none-so-far e = record { put = turns-none _ _ _; here = rw (e, mod-mod) (ap (λ (n : ℕ). n % circle) (omega arith)) }
+  pub none-so-far : {d : List ℕ} {direction : ℕ} → direction ≡ stepsPast step 0 (a .first .0) → SoFar mask step g a d d 0 direction 0
+  none-so-far e = record { put = turns-none _ _ _; here = rw (e, mod-mod) }
 
   module _ {d₀ d : List ℕ} {to direction i : ℕ} (s : SoFar mask step g a d₀ d to direction i) where
     pub carried : direction < circle → direction ≡ stepsPast step i (a .first .0)

@@ -14,6 +14,7 @@ use units::CIRCLE;
 use units::Distance;
 use units::Echo;
 use units::onto_circle;
+use units::steps_past;
 
 // The selected words of one point at a place; the place behind them (rule 5.6).
 fn put_point(
@@ -68,7 +69,7 @@ pub(crate) fn write_points(
     let count = arc.points;
     // both below 5760, so that one step on from a direction is a number of 16 bits
     let by = onto_circle(step);
-    let mut direction = onto_circle(first);
+    let mut direction = steps_past(first, step, 0);
     let mut at: usize = 0;
     let mut i: u16 = 0;
     while i < count {

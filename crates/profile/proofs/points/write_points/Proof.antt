@@ -4,7 +4,7 @@ use Prim.Native.Nat.{ℕ, _+_, _-_, _%_, _≤_, _<_}
 use native.Mathlib.Omega.{arith}
 use borrow.Author.Needs.{needs}
 use lib.ListN.{length}
-use Rattle.units.specs.Directions.{circle}
+use Rattle.units.specs.Directions.{circle, stepsPast}
 use Rattle.plan.specs.declared.Arc.{Arc}
 use Rattle.profile.specs.Profiles.{scan}
 use Rattle.profile.proofs.Laps.{Lap, lap-begun, in-lap, lap-on, SoFar, none-so-far, carried, one-on, taken-off}
@@ -27,9 +27,9 @@ abbrev μ-loop2 : tie.MeasureT-loop2
 -- between laps: the points so far, and the direction carried is on the circle, so it is the one that the definition gives for point i
 abbrev Inv-loop : tie.InvT-loop
 Inv-loop out₀ distances echoes mask shot count by direction₀ at₀ i₀ out direction at i =
-    ((step : ℕ) (a : Arc) → shot ≡ a .shot → by .0 ≡ step % circle → direction₀ .0 ≡ a .first .0 % circle
+    (direction .0 < circle)
+    × ((step : ℕ) (a : Arc) → shot ≡ a .shot → by .0 ≡ step % circle → direction₀ .0 ≡ stepsPast step 0 (a .first .0)
     → SoFar mask step (scan 0 distances echoes) a out₀ out at (direction .0) i)
-    × (direction .0 < circle)
     × (i ≤ count)
     × (length out ≡ length out₀)
 
@@ -46,8 +46,8 @@ room c κs =
     let laps = lap .before .before .before in
     let start = laps .before .before .before .before .before .before .before in
     let by = laps .before .before .onto-circle .ensures in
-    let first = laps .before .onto-circle2 .ensures in
-    let s = lap .loop2 .inv .0 _ (start .args .arc) _ refl by (laps .loop .inv .0 _ _ refl by first) in
+    let first = laps .before .steps-past .ensures in
+    let s = lap .loop2 .inv .0 _ (start .args .arc) _ refl by (laps .loop .inv .1 _ _ refl by first) in
     let here = carried s (in-lap (lap .loop2 .inv .1) (test .loop2-test .taken)) in
     point-room _ _ _ _ _ _ (start .pre) (s .put) (omega (arith, lap .loop2 .inv .1 .ahead)) _ here
 
@@ -66,8 +66,8 @@ again-taken-off : tie.Need-loop-again Inv-loop2 μ-loop2 Inv-loop μ-loop
 again-taken-off c =
     let lap = c .before .before .before .before in
     let laps = lap .before .before .before in (
-      (λ step a shot by first. taken-off (lap .loop2 .inv .0 _ _ _ shot by (laps .loop .inv .0 _ _ shot by first)) (c .before .if1 .taken)),
       omega (arith, lap .loop2 .inv .1 .below),
+      (λ step a shot by first. taken-off (lap .loop2 .inv .0 _ _ _ shot by (laps .loop .inv .1 _ _ shot by first)) (omega arith)),
       omega arith,
       search needs,
     )
@@ -76,8 +76,8 @@ again : tie.Need-loop-again-2 Inv-loop2 μ-loop2 Inv-loop μ-loop
 again c =
     let lap = c .before .before .before in
     let laps = lap .before .before .before in (
-      (λ step a shot by first. lap .loop2 .inv .0 _ _ _ shot by (laps .loop .inv .0 _ _ shot by first)),
-      c .if1 .left,
+      omega arith,
+      (λ step a shot by first. lap .loop2 .inv .0 _ _ _ shot by (laps .loop .inv .1 _ _ shot by first)),
       omega arith,
       search needs,
     )
@@ -87,8 +87,8 @@ done c =
     let laps = c .before in
     let start = laps .before .before .before .before .before .before .before in
     let by = laps .before .before .onto-circle .ensures in
-    let first = laps .before .onto-circle2 .ensures in
-    let s = laps .loop .inv .0 _ (start .args .arc) refl by first in
+    let first = laps .before .steps-past .ensures in
+    let s = laps .loop .inv .1 _ (start .args .arc) refl by first in
     points-done _ _ _ _ _ _ (start .pre) (s .put) (laps .loop .inv .2) (c .loop-test .left)
 
 pub write-points-spec : {M : Type 1} → statement M
@@ -101,7 +101,7 @@ write-points-spec =
     μ-loop
     (λ c κs. search needs)
     (λ c κs. search needs)
-    (λ c. ((λ step a shot by first. none-so-far first), omega arith, omega arith, refl))
+    (λ c. (omega arith, (λ step a shot by first. none-so-far first), omega arith, refl))
     (λ c. search needs)
     (λ c κs. search needs)
     (λ c. search needs)
