@@ -1,5 +1,5 @@
--- The directions of a sector's points by adding, lap by lap: a lap is those points that come before 5760 is reached.
-use mathlib.Core.Path.{_≡_, refl, sym, ap, _∙_}
+-- The directions of a sector's points by adding, lap by lap. A lap is the points that come before 5760 is reached.
+use mathlib.Core.Path.{_≡_, sym, ap, _∙_}
 use mathlib.Core.List.{List}
 use Prim.Native.Nat.{ℕ, zero, suc, _+_, _-_, _*_, _/_, _%_, _≤_, _<_}
 use native.Mathlib.Nat.{mul-zero, suc-mul, add-mul, div-le-self, div-mul-le-self, div-lt-iff-lt-mul}
@@ -38,7 +38,7 @@ module _ (way step : ℕ) where
       let e : way / step + 1 - 1 ≡ way / step = omega arith in
       rw e (omega (arith, div-mul-le-self way step))
 
--- `write_points`: point i and all up to the lap's end lie before 5760
+-- `write_points`, within a lap: point i and all that follow up to the lap's end lie before 5760
 pub record Lap (step direction i end : ℕ) : Type 0 where
   pub ahead : i ≤ end
   pub below : direction + (end - i) * step < circle + step

@@ -1,6 +1,6 @@
 use mathlib.Core.Path.{_≡_, refl}
 use mathlib.Core.List.{List}
-use Prim.Native.Nat.{ℕ, _+_, _-_, _%_, _≤_, _<_}
+use Prim.Native.Nat.{ℕ, _-_, _%_, _≤_, _<_}
 use native.Mathlib.Omega.{arith}
 use borrow.Author.Needs.{needs}
 use lib.ListN.{length}
@@ -12,7 +12,7 @@ use Rattle.profile.proofs.Writing.{point-room, points-done}
 use Rattle.profile.proofs.points.write_points.Statement.{statement}
 use Rattle.profile.proofs.points.write_points.Tie as tie
 
--- within a lap: it takes what stood there so far, for whichever arc and step, one or more points on
+-- within a lap: whichever arc and step the points were of when it began, they still are, up to point i, whose direction is carried
 abbrev Inv-loop2 : tie.InvT-loop2
 Inv-loop2 out₀ distances echoes mask shot count by direction₀ at₀ i₀ end out direction at i =
     ((step : ℕ) (a : Arc) (d₀ : List ℕ) → shot ≡ a .shot → by .0 ≡ step % circle
@@ -24,7 +24,7 @@ Inv-loop2 out₀ distances echoes mask shot count by direction₀ at₀ i₀ end
 abbrev μ-loop2 : tie.MeasureT-loop2
 μ-loop2 out₀ distances echoes mask shot count by direction₀ at₀ i₀ end out direction at i = end - i
 
--- between laps: the points so far, and the direction carried is on the circle, so it is the one that the definition gives for point i
+-- between laps: the direction carried is on the circle, so it is the one that the definition gives for point i
 abbrev Inv-loop : tie.InvT-loop
 Inv-loop out₀ distances echoes mask shot count by direction₀ at₀ i₀ out direction at i =
     (direction .0 < circle)
