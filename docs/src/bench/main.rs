@@ -259,10 +259,10 @@ fn main() {
         case("eight sectors, step 8, 10 Hz", 8, 5752, 8, 10),
         case("one sector, step 4, 5 Hz", 1, 5756, 4, 5),
         case("eight sectors, step 4, 5 Hz", 8, 5756, 4, 5),
-        case("one sector past 5760, step 8, 10 Hz", 1, 2880, 8, 10),
-        case("eight sectors, one past 5760, step 8, 10 Hz", 8, 5400, 8, 10),
-        case("one sector past 5760, step 4, 5 Hz", 1, 2880, 4, 5),
-        case("eight sectors, one past 5760, step 4, 5 Hz", 8, 5400, 4, 5),
+        case("one sector that passes 5760 midway, step 8, 10 Hz", 1, 2880, 8, 10),
+        case("eight sectors, the first passes 5760 midway, step 8, 10 Hz", 8, 5400, 8, 10),
+        case("one sector that passes 5760 midway, step 4, 5 Hz", 1, 2880, 4, 5),
+        case("eight sectors, the first passes 5760 midway, step 4, 5 Hz", 8, 5400, 4, 5),
     ];
     for case in &cases {
         measure(case, rounds, calls);
