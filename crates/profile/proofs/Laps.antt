@@ -38,6 +38,11 @@ module _ (way step : ℕ) where
       let e : way / step + 1 - 1 ≡ way / step = omega arith in
       rw e (omega (arith, div-mul-le-self way step))
 
+  pub next-behind : (direction : ℕ) → 0 < step → circle ≤ direction + way + 1 → circle ≤ direction + (way / step + 1) * step
+  next-behind direction p h =
+      let q : way / step < way / step + 1 = omega arith in
+      omega (arith, div-lt-iff-lt-mul p .0 q)
+
 -- `write_points`, within a lap: point i and all that follow up to the lap's end lie before 5760
 pub record Lap (step direction i end : ℕ) : Type 0 where
   pub ahead : i ≤ end

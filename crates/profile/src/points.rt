@@ -33,12 +33,13 @@ fn put_point(
     put_selected(out, q, mask, bits::ECHO, echo.0)
 }
 
-// How many of the points that are left, from a direction on and a step apart, lie before 5760: the points of its lap, one at the least.
+// How many of the points that are left, from a direction on and a step apart, come before 5760 is reached: the points of its lap.
 fn left_in_lap(direction: Angle, step: Angle, left: u16) -> u16
     requires { ⌜ direction .0 < circle ⌝ }
     requires { ⌜ 1 ≤ left ⌝ }
     ensures { λ r. ⌜ (1 ≤ r) × (r ≤ left) ⌝ }
     ensures { λ r. ⌜ direction .0 + (r - 1) * step .0 < circle ⌝ }
+    ensures { λ r. ⌜ (r < left → circle ≤ direction .0 + r * step .0) ⌝ }
 {
     if words::product(left - 1, step.0) < (CIRCLE - direction.0) as u32 {
         return left;
@@ -48,10 +49,10 @@ fn left_in_lap(direction: Angle, step: Angle, left: u16) -> u16
 
 // The points of a sector over the front of the buffer, the selected words of each together; how many words they are (rule 5.6).
 //
-// A point's direction is carried from the point before it: one step on, and 5760 off where that is reached (rule 3.5). Tested at each point,
-// every direction would hang on the test before it, and no two points could be made at once. So there are two loops: the inner one goes
-// through a lap, the points before 5760, by adding alone, which lets the compiler make several points at a time; the outer one takes 5760
-// off between two laps.
+// A point's direction is carried from the point before it: one step on, and 5760 off where that is reached or passed (rule 3.5). With a test
+// for that at each point every direction would wait for the one before it, and no two points could be made at once. So there are two
+// loops: the inner one goes through a lap, the points before 5760, by adding alone, and the compiler makes several of them at a time; the
+// outer one takes 5760 off between two laps.
 pub(crate) fn write_points(
     out: &mut [u16],
     distances: &[u16],
@@ -67,7 +68,7 @@ pub(crate) fn write_points(
     let first = arc.first;
     let shot = arc.shot;
     let count = arc.points;
-    // both below 5760, so that one step on from a direction is a number of 16 bits
+    // the step and the direction of point 0, both below 5760: so one step on from a direction is a number of 16 bits
     let by = onto_circle(step);
     let mut direction = steps_past(first, step, 0);
     let mut at: usize = 0;

@@ -37,7 +37,7 @@ abbrev μ-loop : tie.MeasureT-loop
 μ-loop out₀ distances echoes mask shot count by direction₀ at₀ i₀ out direction at i = count - i
 
 lap-holds : tie.Need-loop2-holds Inv-loop2 μ-loop2 Inv-loop μ-loop
-lap-holds c = ((λ step a d₀ shot by s. s), lap-begun _ _ _ _ (c .left-in-lap .ensures .0 .0) (c .left-in-lap .ensures .1), refl)
+lap-holds c = ((λ step a d₀ shot by s. s), lap-begun _ _ _ _ (c .left-in-lap .ensures .0 .0) (c .left-in-lap .ensures .1 .0), refl)
 
 room : tie.Need-put-point-requires Inv-loop2 μ-loop2 Inv-loop μ-loop
 room c κs =
