@@ -33,8 +33,8 @@ profileRows =
       value = revolutionOf (measuring twoSectors 4 10 0x18F8) (still 1440) 17 .written;
       figure =
           0x8301 ∷ 0x18F8 ∷ 0x0102
-          ∷ 0 ∷ 4 ∷ 0 ∷ 0 ∷ 3364 ∷ 66 ∷ 1436
-          ∷ 1 ∷ 4 ∷ 481 ∷ 66 ∷ 1440 ∷ 99 ∷ 3360 ∷ [];
+          ∷ 0 ∷ 4 ∷ 0 ∷ 0 ∷ 3364 ∷ 67 ∷ 1436
+          ∷ 1 ∷ 4 ∷ 481 ∷ 67 ∷ 1440 ∷ 100 ∷ 3360 ∷ [];
     }
     ∷ []
 

@@ -1,1 +1,2 @@
 pub mod ShotCounts
+pub mod Rounding

@@ -2,3 +2,4 @@
 pub mod Units
 pub mod Directions
 pub mod Times
+pub mod Demands

@@ -5,6 +5,10 @@ use Prim.Native.Nat.{ℕ, _+_, _*_, _/_, _%_}
 abbrev pub clock : ℕ
 clock = 65536
 
--- the time of shot k, counted from 0, of a revolution that begins at a start time; the rate is the running speed times N (rule 3.7)
+-- the milliseconds from the start of a revolution to its shot k, counted from 0; the rate is the running speed times N (rule 3.7)
+abbrev pub afterStart : ℕ → ℕ → ℕ
+afterStart rate k = (2000 * k + rate) / (2 * rate)
+
+-- the time of shot k of a revolution that begins at a start time (rule 3.7)
 abbrev pub shotTime : ℕ → ℕ → ℕ → ℕ
-shotTime start rate k = (start + 1000 * k / rate) % clock
+shotTime start rate k = (start + afterStart rate k) % clock

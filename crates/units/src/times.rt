@@ -10,6 +10,8 @@ pub fn shot_time(start: Time, rate: u32, k: u16) -> Time
     if rate == 0 {
         return start;
     }
-    let ms = 1000 * (k as u32) / rate;
+    // half milliseconds, cut off: with one more of them, two make a millisecond
+    let halves = 2000 * (k as u32) / rate;
+    let ms = (halves + 1) / 2;
     Time(((start.0 as u32 + ms) % 65536) as u16)
 }

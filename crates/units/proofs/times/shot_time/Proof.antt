@@ -1,7 +1,7 @@
 use borrow.Author.Needs.{needs}
-use Prim.Native.Nat.{_*_}
-use native.Mathlib.Nat.{div-zero, div-le-self}
+use native.Mathlib.Nat.{div-zero}
 use native.Mathlib.Omega.{arith}
+use Rattle.units.proofs.Rounding.{by-halves, few-halves}
 use Rattle.units.proofs.times.shot_time.Statement.{statement}
 use Rattle.units.proofs.times.shot_time.Tie as tie
 
@@ -16,7 +16,8 @@ shot-time-spec =
     stands
     (λ c. search needs)
     (λ c. search needs)
+    (λ c. record { fits = omega (arith, few-halves (c .before .args .rate) (c .before .args .k) (search needs)) })
     (λ c. search needs)
-    (λ c. record { fits = omega (arith, div-le-self (1000 * c .before .before .args .k) (c .before .before .args .rate)) })
+    (λ c. record { fits = omega (arith, few-halves (c .before .before .args .rate) (c .before .before .args .k) (search needs)) })
     (λ c. search needs)
-    (λ c. search needs))
+    (λ c. omega (arith, by-halves (c .before .before .args .rate) (c .before .before .args .k) (search needs))))
