@@ -3,6 +3,7 @@ pub mod ProfileLengths
 pub mod Revolved
 pub mod Carried
 pub mod AllShots
+pub mod Timed
 pub mod PointByPoint
 pub mod ProfileRows
 -- The functions

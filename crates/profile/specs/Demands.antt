@@ -1,4 +1,4 @@
--- What is promised of revolutions, as statements. The proofs stand in proofs/Revolved.antt, Carried.antt, AllShots.antt and
+-- What is promised of revolutions, as statements. The proofs stand in proofs/Revolved.antt, Carried.antt, AllShots.antt, Timed.antt and
 -- PointByPoint.antt.
 use mathlib.Core.Path.{_≡_}
 use mathlib.Core.Bool.{not}
@@ -13,6 +13,7 @@ use Rattle.words.specs.Words.{givenIf, laidAll}
 use Rattle.words.specs.Buffers.{Wrote, inTurn}
 use Rattle.words.specs.Numbers.{No, no, firstOf}
 use Rattle.units.specs.Directions.{stepsPast}
+use Rattle.units.specs.Demands.{Rounded}
 use Rattle.layout.specs.Bits as bits
 use Rattle.layout.specs.Masks.{maskOk, uncounted}
 use Rattle.layout.specs.Fields.{SectorFields}
@@ -120,6 +121,10 @@ abbrev pub AllPoints : Type 0
 AllPoints =
     (s : State) (g : Scan) (mask sent counter : ℕ)
     → laidAll (λ f. f .body) (fieldsOf s g mask sent counter .sectors) ≡ measuredFrom mask g 0 (runOf (s .step .0) (s .working))
+
+-- every shot of a revolution that is taken has the time of its nearest millisecond (rule 3.7)
+abbrev pub NearestTimes : Type 0
+NearestTimes = (s : State) (g : Scan) → Turning s g → Rounded (rateOf s)
 
 -- the same points with all distances first, then all directions, then all echoes (rule 5.6)
 abbrev pub asBlocks : ℕ → ℕ → Scan → Arc → List ℕ

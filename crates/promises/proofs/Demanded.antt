@@ -9,6 +9,7 @@ use Rattle.sensor.proofs.Served.{table-holds, only-these}
 use Rattle.profile.proofs.Revolved as revolutions
 use Rattle.profile.proofs.Carried.{points-are-shots, sent-length, never-longer}
 use Rattle.profile.proofs.AllShots.{all-points}
+use Rattle.profile.proofs.Timed.{nearest-times}
 use Rattle.reader.proofs.RoundTrip.{accepts-exactly, put-together, reads-back, one-reading}
 use Rattle.reader.proofs.Numbers as readings
 use Rattle.reader.proofs.PointNumbers.{no-points}
@@ -43,6 +44,7 @@ demand2 =
       runs-round = revolution;
       tiling = tiling;
       counting = counting;
+      nearest-times = nearest-times;
       points = points-are-shots;
       all-points = all-points;
       sent-length = sent-length;

@@ -5,7 +5,7 @@ use Rattle.layout.specs.Lengths.{LayoutLength}
 use Rattle.plan.specs.Demands.{Tiling, Counting, Revolution}
 use Rattle.sensor.specs.Demands.{RefusalsExactly as RequestNumbers, RefusalsChangeNothing as RequestUnchanged, RoomForAll, TableHolds, OnlyThese}
 use Rattle.profile.specs.Demands.{RefusalsExactly as RevolutionNumbers, RefusalsChangeNothing as RevolutionUnchanged}
-use Rattle.profile.specs.Demands.{SentLength, NeverLonger, PointsAreShots, AllPoints}
+use Rattle.profile.specs.Demands.{NearestTimes, SentLength, NeverLonger, PointsAreShots, AllPoints}
 use Rattle.reader.specs.Demands.{AcceptsExactly, PutTogether, ReadsBack, OneReading, NoPoints, StandsAtPlace}
 use Rattle.reader.specs.Demands.{RefusalsExactly as ReaderNumbers, StretchNumbers, RefusalsGiveNothing}
 use Rattle.promises.specs.Determined.{Determined}
@@ -44,6 +44,8 @@ pub record Demand2 : Type 0 where
   pub runs-round : Revolution
   pub tiling : Tiling
   pub counting : Counting
+  -- and the times at which they are fired
+  pub nearest-times : NearestTimes
   -- the profile: its points are the run's measured shots, each one and no other; its length is the formula's, and never above the greatest
   pub points : PointsAreShots
   pub all-points : AllPoints
