@@ -190,7 +190,7 @@ fn put_if(out: &mut [u16], at: usize, on: bool, word: u16) -> usize {
 }
 
 fn shot_time(start: u16, rate: u32, k: u16) -> u16 {
-    ((start as u32 + 1000 * k as u32 / rate) % 65536) as u16
+    ((start as u32 + (2000 * k as u32 + rate) / (2 * rate)) % 65536) as u16
 }
 
 fn point_direction(first: u16, step: u16, i: u16) -> u16 {

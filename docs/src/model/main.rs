@@ -24,6 +24,7 @@ mod stored_requests;
 mod stored_revolutions;
 mod stored_samples;
 mod stored_states;
+mod stored_times;
 mod talk;
 #[cfg(test)]
 mod tests;

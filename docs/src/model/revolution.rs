@@ -46,9 +46,9 @@ pub fn revolution(state: &State, start_time: u16, distances: &[u16], echoes: &[u
 }
 
 /// Rule 3.7.
-fn time_of_shot(state: &State, start_time: u16, shot: usize) -> u16 {
+pub fn time_of_shot(state: &State, start_time: u16, shot: usize) -> u16 {
     let shots_per_second = usize::from(state.running_speed) * plan::shots_per_revolution(state.step);
-    let after_start = 1000 * shot / shots_per_second;
+    let after_start = (2000 * shot + shots_per_second) / (2 * shots_per_second);
     ((usize::from(start_time) + after_start) % 65536) as u16
 }
 

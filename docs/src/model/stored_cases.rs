@@ -8,6 +8,7 @@ use crate::stored_readings;
 use crate::stored_requests;
 use crate::stored_revolutions;
 use crate::stored_samples::{buffer, idle, plan_of};
+use crate::stored_times;
 
 /// Cases that lack words or have some too many, and kinds that there are not.
 fn cases_of_the_format() -> Vec<Vec<u16>> {
@@ -44,6 +45,7 @@ pub fn input() -> Vec<u8> {
         stored_plans::cases(),
         stored_readings::cases(),
         stored_revolutions::cases(),
+        stored_times::cases(),
         cases_of_the_format(),
     ];
     for case in topics.iter().flatten() {
