@@ -10,7 +10,7 @@ pub fn shot_time(start: Time, rate: u32, k: u16) -> Time
     if rate == 0 {
         return start;
     }
-    // half milliseconds, cut off: with one more of them, two make a millisecond
+    // half milliseconds, cut off; one more, and two make one: so a half goes up
     let halves = 2000 * (k as u32) / rate;
     let ms = (halves + 1) / 2;
     Time(((start.0 as u32 + ms) % 65536) as u16)
