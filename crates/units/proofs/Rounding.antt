@@ -31,6 +31,7 @@ module _ (rate k : ℕ) (some : 0 < rate) where
       ∙ ap (λ (n : ℕ). n / (2 * rate)) (omega arith)
       ∙ by-two rate (2000 * k)
 
+  -- half a millisecond behind the exact time at the most, and less than that before it
   not-above : 2 * rate * ms ≤ 2000 * k + rate
   not-above = mul-div-le (2000 * k + rate) (2 * rate)
 
@@ -44,6 +45,7 @@ module _ (rate k : ℕ) (some : 0 < rate) where
   behind : (m : ℕ) → ms < m → rate < offBy rate k m
   behind m h = omega (arith, below, mul-le-mul-left (2 * rate) h)
 
+  -- no millisecond is nearer, and none behind it is as near
   close : (m : ℕ) → (m - ms ≡ 0) ⊎ (0 < m - ms) → (ms - m ≡ 0) ⊎ (0 < ms - m) → offBy rate k ms ≤ offBy rate k m
   close m (inr h) e = omega (arith, not-above, below, behind m (omega arith))
   close m (inl h) (inr e) = omega (arith, not-above, below, before m (omega arith))
@@ -53,6 +55,7 @@ module _ (rate k : ℕ) (some : 0 < rate) where
   last m (inl h) o = omega arith
   last m (inr h) o = absurd (omega (arith, not-above, below, behind m (omega arith)))
 
+-- a later shot has no earlier time, before the start is added
 rises : (rate j k : ℕ) → 0 < rate → j ≤ k → afterStart rate j ≤ afterStart rate k
 rises rate j k some h =
     le-div-iff-mul-le {k = 2 * rate} {x = afterStart rate j} {y = 2000 * k + rate} (omega arith) .1
