@@ -1,5 +1,5 @@
 -- The rate of a revolution's shots is not 0, so its times are to the nearest millisecond.
-use Prim.Native.Nat.{ℕ, _*_, _/_, _≤_, _<_}
+use Prim.Native.Nat.{ℕ, _≤_, _<_}
 use native.Mathlib.Nat.{le-of-dvd, le-div-iff-mul-le, mul-le-mul}
 use native.Mathlib.Omega.{arith}
 use lib.Dec.{T}

@@ -5,8 +5,8 @@ use Prim.Native.Nat.{ℕ, _+_, _-_, _*_, _/_, _^_, _≤_, _<_}
 use native.Mathlib.Nat.{eq-zero-or-pos, mul-comm, mul-le-mul-left}
 use native.Mathlib.Nat.{div-le-self, mul-div-le, lt-mul-div-succ, div-mul-le-self, le-div-iff-mul-le, add-div-right, div-div-eq-div-mul, mul-div-mul-left}
 use native.Mathlib.Omega.{arith}
-use Rattle.units.specs.Times.{clock, afterStart, shotTime}
-use Rattle.units.specs.Demands.{offBy, Rounded, TimesRounded}
+use Rattle.units.specs.Times.{afterStart}
+use Rattle.units.specs.Demands.{offBy, TimesRounded}
 
 -- the bound that keeps a time within 32 bits, whatever the rate is
 pub few-halves : (rate k : ℕ) → k < 2 ^ 16 → 2000 * k / rate < 2 ^ 27
