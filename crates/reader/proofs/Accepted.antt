@@ -13,8 +13,9 @@ use Rattle.words.proofs.Lawful.{Sound, SoundOf}
 use Rattle.layout.specs.Layout.{headLength}
 use Rattle.reader.specs.declared.SectorReading.{SectorReading}
 use Rattle.reader.specs.declared.Reading.{Reading}
+use Rattle.reader.specs.declared.Place.the-variants.{Nowhere}
 use Rattle.reader.specs.Sectors.{sector}
-use Rattle.reader.specs.Readings.{maskIn, countIn, headRefusal, Body, sectorsIn, body, refusedReading, acceptedReading, ended, bodyOf, readOf}
+use Rattle.reader.specs.Readings.{maskIn, countIn, headRefusal, Body, sectorsIn, body, refusedReading, acceptedReading, endOf, ended, bodyOf, readOf}
 use Rattle.reader.proofs.Heads.{GoodHead, good-head}
 use Rattle.reader.proofs.Bodies.{body-lawful, sectors-ok}
 use Rattle.reader.proofs.Readouts.{refused-head, read-whole}
@@ -29,7 +30,7 @@ pub record Parsed (ws rest : List ℕ) : Type 0 where
   pub value : Body SectorReading
   pub place : ℕ
   pub parsed : foundIn ws ≡ got value place rest
-  pub reading : readOf ws ≡ ended (maskIn ws) (countIn ws) (got value place rest)
+  pub reading : readOf ws ≡ ended (maskIn ws) (countIn ws) (endOf ws) (got value place rest)
 
 -- none is left
 abbrev pub Accepted : List ℕ → Type 0
@@ -37,19 +38,19 @@ Accepted ws = Parsed ws []
 
 -- the ways a reading goes: its head is refused, its words end early, some are left over, or it is accepted
 pub data Outcome (ws : List ℕ) : Reading → Type 0 where
-  refused : (headRefusal ws ≡ 0 → ⊥) → Outcome ws (refusedReading (headRefusal ws))
-  cut : GoodHead ws → foundIn ws ≡ short → Outcome ws (refusedReading 15)
-  over : {w : ℕ} {rest : List ℕ} → Parsed ws (w ∷ rest) → Outcome ws (refusedReading 16)
+  refused : (headRefusal ws ≡ 0 → ⊥) → Outcome ws (refusedReading (headRefusal ws) Nowhere)
+  cut : GoodHead ws → foundIn ws ≡ short → Outcome ws (refusedReading 15 (endOf ws))
+  over : {w : ℕ} {rest : List ℕ} → Parsed ws (w ∷ rest) → Outcome ws (refusedReading 16 Nowhere)
   whole : (s : Accepted ws) → Outcome ws (acceptedReading (maskIn ws) (countIn ws) (s .value))
 
 module _ (ws : List ℕ) where
   -- the reader refuses by the head, or gives what the body's format finds
-  pub by-head : (headRefusal ws ≡ 0 → ⊥) → readOf ws ≡ refusedReading (headRefusal ws)
+  pub by-head : (headRefusal ws ≡ 0 → ⊥) → readOf ws ≡ refusedReading (headRefusal ws) Nowhere
   by-head h = sym (refused-head ws (headRefusal ws) refl _ h refl)
 
-  pub by-body : headRefusal ws ≡ 0 → {g : Got (Body SectorReading)} → foundIn ws ≡ g → readOf ws ≡ ended (maskIn ws) (countIn ws) g
+  pub by-body : headRefusal ws ≡ 0 → {g : Got (Body SectorReading)} → foundIn ws ≡ g → readOf ws ≡ ended (maskIn ws) (countIn ws) (endOf ws) g
   unfolding bodyOf
-  by-body h e = sym (read-whole ws (headRefusal ws) refl _ h (sym (ap (ended (maskIn ws) (countIn ws)) e)))
+  by-body h e = sym (read-whole ws (headRefusal ws) refl _ h (sym (ap (ended (maskIn ws) (countIn ws) (endOf ws)) e)))
 
   abbrev with-left : headRefusal ws ≡ 0 → {a : Body SectorReading} {b : ℕ} {rest : List ℕ} → foundIn ws ≡ got a b rest → Parsed ws rest
   with-left h {a} {b} e = record { head = good-head ws h; value = a; place = b; parsed = e; reading = by-body h e }
@@ -57,7 +58,7 @@ module _ (ws : List ℕ) where
   pub outcome : Outcome ws (readOf ws)
   outcome = go (eqb (headRefusal ws) 0) refl
     where
-      found : headRefusal ws ≡ 0 → (g : Got (Body SectorReading)) → foundIn ws ≡ g → Outcome ws (ended (maskIn ws) (countIn ws) g)
+      found : headRefusal ws ≡ 0 → (g : Got (Body SectorReading)) → foundIn ws ≡ g → Outcome ws (ended (maskIn ws) (countIn ws) (endOf ws) g)
       found h short e = cut (good-head ws h) e
       found h (got a b []) e = whole (with-left h e)
       found h (got a b (w ∷ rest)) e = over (with-left h e)

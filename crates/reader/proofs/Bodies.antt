@@ -22,9 +22,11 @@ use Rattle.layout.specs.Fields.{SectorFields}
 use Rattle.layout.specs.Layout.{headLength}
 use Rattle.reader.specs.declared.SectorReading.{SectorReading}
 use Rattle.reader.specs.declared.Sectors.{Sectors}
+use Rattle.reader.specs.declared.Place.{Place}
+use Rattle.reader.specs.declared.Place.the-variants.{Nowhere}
 use Rattle.reader.specs.Sectors.{sector}
 use Rattle.reader.specs.Readings.{Body, sectorsIn, body, refusedReading, ended}
-use Rattle.reader.specs.Places.{valueOf, placeOf, fromPlace, sectorsOf}
+use Rattle.reader.specs.Places.{valueOf, placeOf, fromPlace, SectorsRead}
 use Rattle.reader.proofs.SectorPlaces.{sector-extends}
 
 pub sectors-extends : (mask count : ℕ) → Extends (times count (sector mask))
@@ -67,7 +69,7 @@ pub record BodyWalk (mask count : ℕ) (ws : List ℕ) : Type 0 where
   pub is-sent : sent ≡ takeAt (bit mask bits.sent) ws headLength
   pub is-counter : counter ≡ takeAt (bit mask bits.counter) ws (sent .at)
   pub is-layer : layer ≡ takeAt (bit mask bits.layer) ws (counter .at)
-  pub is-found : found ≡ sectorsOf ws (fromPlace (times count (sector mask)) ws (layer .at))
+  pub is-found : SectorsRead ws mask count (layer .at) found
   pub is-high : high ≡ takeAt (bit mask bits.senstat) ws (found .at)
   pub is-low : low ≡ takeAt (bit mask bits.senstat) ws (high .at)
 
@@ -96,7 +98,7 @@ module _ (mask count : ℕ) (ws : List ℕ) (long : headLength ≤ length ws) wh
   read-by-places : body mask count .parse headLength (drop headLength ws) ≡ outAt ws 0 (by-places .0) (by-places .1)
   read-by-places = by-places .2 .reads long
 
-  module _ (w : BodyWalk mask count ws) where
+  module _ (w : BodyWalk mask count ws) (end : Place) where
     abbrev pub walked : Body SectorReading
     walked =
         let list = valueOf [] (fromPlace (times count (sector mask)) ws (w .layer .at)) in
@@ -110,23 +112,25 @@ module _ (mask count : ℕ) (ws : List ℕ) (long : headLength ≤ length ws) wh
           ← w .is-sent,
           ← w .is-counter,
           ← w .is-layer,
-          ← ap (λ (r : Sectors). r .at) (w .is-found),
+          ← w .is-found .place,
           ← w .is-high,
           ← w .is-low,
         )
 
     -- the ways out, by the place behind the last word
-    pub end-short : length ws < w .low .at → refusedReading 15 ≡ ended mask count (body mask count .parse headLength (drop headLength ws))
-    end-short h = sym (ap (ended mask count) (found ∙ past-out ws 0 walked (w .low .at) h))
+    pub end-short : length ws < w .low .at → refusedReading 15 end ≡ ended mask count end (body mask count .parse headLength (drop headLength ws))
+    end-short h = sym (ap (ended mask count end) (found ∙ past-out ws 0 walked (w .low .at) h))
 
-    pub end-over : w .low .at < length ws → refusedReading 16 ≡ ended mask count (body mask count .parse headLength (drop headLength ws))
+    pub end-over : w .low .at < length ws → refusedReading 16 Nowhere ≡ ended mask count end (body mask count .parse headLength (drop headLength ws))
     end-over h =
-        let whole : refusedReading 16 ≡ ended mask count (got walked (0 + w .low .at) (drop (w .low .at) ws)) = rw (drop-cons ws (w .low .at) 0 h) in
-        whole ∙ sym (ap (ended mask count) (found ∙ in-out ws 0 walked (w .low .at) (omega arith)))
+        let whole : refusedReading 16 Nowhere ≡ ended mask count end (got walked (0 + w .low .at) (drop (w .low .at) ws)) =
+        rw (drop-cons ws (w .low .at) 0 h) in
+        whole ∙ sym (ap (ended mask count end) (found ∙ in-out ws 0 walked (w .low .at) (omega arith)))
 
     pub end-exact : w .low .at ≤ length ws → length ws ≤ w .low .at
         → record {
           refusal = 0;
+          place = Nowhere;
           mask = Given mask;
           sent = w .sent .word;
           counter = w .counter .word;
@@ -135,10 +139,10 @@ module _ (mask count : ℕ) (ws : List ℕ) (long : headLength ≤ length ws) wh
           sectors = w .found .list;
           high = w .high .word;
           low = w .low .word;
-        } ≡ ended mask count (body mask count .parse headLength (drop headLength ws))
+        } ≡ ended mask count end (body mask count .parse headLength (drop headLength ws))
     end-exact h k =
         rw (
-          ap (λ (r : Sectors). r .list) (w .is-found),
+          w .is-found .list,
           found,
           in-out ws 0 walked (w .low .at) h,
           drop-of-length-le ws k,

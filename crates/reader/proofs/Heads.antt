@@ -12,7 +12,7 @@ use Rattle.words.specs.Lists.{some}
 use Rattle.words.proofs.Tests.{holds}
 use Rattle.layout.specs.Masks.{maskOk, uncounted}
 use Rattle.layout.specs.Layout.{profileCode, oneLayer, headLength}
-use Rattle.reader.specs.Readings.{maskIn, infoIn, countIn, infoOk, begins, formed, headRefusal}
+use Rattle.reader.specs.Readings.{maskIn, infoIn, countIn, layersOk, sectorsOk, begins, headRefusal}
 
 no-words : (ws : List ℕ) → length ws ≡ 0 → some ws ≡ false
 no-words [] h = refl
@@ -22,45 +22,58 @@ some-words : (ws : List ℕ) → (length ws ≡ 0 → ⊥) → some ws ≡ true
 some-words [] h = absurd (h refl)
 some-words (w ∷ ws) h = refl
 
+-- the number of the first test that fails, in the order of the rules
+abbrev firsts : Bool → Bool → Bool → Bool → Bool → Bool → ℕ
+firsts begun long mask layers sectors bare =
+    if not begun then 12 else if not long then 13 else if not mask then 22 else if not layers then 23 else if not sectors then 24 else if bare then 14 else 0
+
 module _ (ws : List ℕ) where
-  -- the refusal by its three tests
-  by-tests : (a b c : Bool) → begins ws ≡ a → formed ws ≡ b → uncounted (maskIn ws) ≡ c
-      → (if not a then 12 else if not b then 13 else if c then 14 else 0) ≡ headRefusal ws
+  -- the refusal by its six tests
+  by-tests : (a l m y s c : Bool) → begins ws ≡ a → leb headLength (length ws) ≡ l → maskOk (maskIn ws) ≡ m → layersOk (infoIn ws) ≡ y
+      → sectorsOk (infoIn ws) ≡ s → uncounted (maskIn ws) ≡ c
+      → firsts a l m y s c ≡ headRefusal ws
   unfolding headRefusal
-  by-tests a b c p q r = rw (p, q, r)
+  by-tests a l m y s c p₁ p₂ p₃ p₄ p₅ p₆ = rw (p₁, p₂, p₃, p₄, p₅, p₆)
 
   -- the ways out, in the order of the tests
   pub empty : length ws ≡ 0 → 12 ≡ headRefusal ws
-  empty h = by-tests false _ _ (rw (no-words ws h)) refl refl
+  empty h = by-tests false _ _ _ _ _ (rw (no-words ws h)) refl refl refl refl refl
 
   module _ (there : length ws ≡ 0 → ⊥) where
     pub another : (getD ws 0 0 ≡ profileCode → ⊥) → 12 ≡ headRefusal ws
-    another h = by-tests false _ _ (rw (some-words ws there, ne-eqb (getD ws 0 0) profileCode h)) refl refl
+    another h = by-tests false _ _ _ _ _ (rw (some-words ws there, ne-eqb (getD ws 0 0) profileCode h)) refl refl refl refl refl
 
     module _ (first : getD ws 0 0 ≡ profileCode) where
       begun : begins ws ≡ true
       begun = rw (some-words ws there, eq-eqb (getD ws 0 0) profileCode first)
 
       pub too-few : length ws < headLength → 13 ≡ headRefusal ws
-      too-few h = by-tests true false _ begun (rw (lt-leb headLength (length ws) h)) refl
+      too-few h = by-tests true false _ _ _ _ begun (lt-leb headLength (length ws) h) refl refl refl refl
 
       module _ (long : headLength ≤ length ws) where
-        pub bad-mask : maskOk (maskIn ws) ≡ false → 13 ≡ headRefusal ws
-        bad-mask h = by-tests true false _ begun (rw (le-leb headLength (length ws) long, h)) refl
+        enough : leb headLength (length ws) ≡ true
+        enough = le-leb headLength (length ws) long
+
+        pub bad-mask : maskOk (maskIn ws) ≡ false → 22 ≡ headRefusal ws
+        bad-mask h = by-tests true true false _ _ _ begun enough h refl refl refl
 
         module _ (mask : maskOk (maskIn ws) ≡ true) where
-          pub bad-info : infoOk (infoIn ws) ≡ false → 13 ≡ headRefusal ws
-          bad-info h = by-tests true false _ begun (rw (le-leb headLength (length ws) long, mask, h)) refl
+          pub bad-layers : layersOk (infoIn ws) ≡ false → 23 ≡ headRefusal ws
+          bad-layers h = by-tests true true true false _ _ begun enough mask h refl refl
 
-          module _ (info : infoOk (infoIn ws) ≡ true) where
-            last-test : {t : Bool} → t ≡ uncounted (maskIn ws) → (if t then 14 else 0) ≡ headRefusal ws
-            last-test {t} e = by-tests true true t begun (rw (le-leb headLength (length ws) long, mask, info)) (sym e)
+          module _ (layers : layersOk (infoIn ws) ≡ true) where
+            pub bad-sectors : sectorsOk (infoIn ws) ≡ false → 24 ≡ headRefusal ws
+            bad-sectors h = by-tests true true true true false _ begun enough mask layers h refl
 
-            pub no-number : {t : Bool} → t ≡ uncounted (maskIn ws) → t ≡ true → 14 ≡ headRefusal ws
-            no-number e h = last-test (sym h ∙ e)
+            module _ (sectors : sectorsOk (infoIn ws) ≡ true) where
+              last-test : {t : Bool} → t ≡ uncounted (maskIn ws) → (if t then 14 else 0) ≡ headRefusal ws
+              last-test {t} e = by-tests true true true true true t begun enough mask layers sectors (sym e)
 
-            pub passed : {t : Bool} → t ≡ uncounted (maskIn ws) → t ≡ false → 0 ≡ headRefusal ws
-            passed e h = last-test (sym h ∙ e)
+              pub no-number : {t : Bool} → t ≡ uncounted (maskIn ws) → t ≡ true → 14 ≡ headRefusal ws
+              no-number e h = last-test (sym h ∙ e)
+
+              pub passed : {t : Bool} → t ≡ uncounted (maskIn ws) → t ≡ false → 0 ≡ headRefusal ws
+              passed e h = last-test (sym h ∙ e)
 
 -- what a head that passes has
 pub record GoodHead (ws : List ℕ) : Type 0 where
@@ -89,24 +102,27 @@ unfolding headRefusal
 good-head ws e =
     let i = infoIn ws in
     let first = through (begins ws) 11 _ e in
-    let whole = through (formed ws) 12 _ (first .1) in
-    let front = parts (leb headLength (length ws) && maskOk (maskIn ws)) (infoOk i) (whole .0) in
-    let start = parts (leb headLength (length ws)) (maskOk (maskIn ws)) (front .0) in
-    let sectors = parts (eqb (i / 256) 1 && leb 1 (i % 256)) (leb (i % 256) 8) (front .1) in
-    let bytes = parts (eqb (i / 256) 1) (leb 1 (i % 256)) (sectors .0) in
-    let high : i / 256 ≡ 1 = eqb-true (i / 256) 1 (bytes .0) in
+    let enough = through (leb headLength (length ws)) 12 _ (first .1) in
+    let mask = through (maskOk (maskIn ws)) 21 _ (enough .1) in
+    let layers = through (layersOk i) 22 _ (mask .1) in
+    let sectors = through (sectorsOk i) 23 _ (layers .1) in
+    let number = parts (leb 1 (i % 256)) (leb (i % 256) 8) (sectors .0) in
+    let high : i / 256 ≡ 1 = eqb-true (i / 256) 1 (layers .0) in
     record {
-      long = leb-true headLength (length ws) (start .0);
+      long = leb-true headLength (length ws) (enough .0);
       first = eqb-true (getD ws 0 0) profileCode (parts (some ws) (eqb (getD ws 0 0) profileCode) (first .0) .1);
-      mask = holds (start .1);
+      mask = holds (mask .0);
       third = omega arith;
-      some-sector = leb-true 1 (i % 256) (bytes .1);
-      few = leb-true (i % 256) 8 (sectors .1);
-      counted = left (uncounted (maskIn ws)) 13 (whole .1);
+      some-sector = leb-true 1 (i % 256) (number .0);
+      few = leb-true (i % 256) 8 (number .1);
+      counted = left (uncounted (maskIn ws)) 13 (sectors .1);
     }
 
 pub head-long : (ws : List ℕ) → headRefusal ws ≡ 0 → headLength ≤ length ws
 head-long ws e = good-head ws e .long
+
+pub head-some : (ws : List ℕ) → headRefusal ws ≡ 0 → 1 ≤ countIn ws
+head-some ws e = good-head ws e .some-sector
 
 pub head-few : (ws : List ℕ) → headRefusal ws ≡ 0 → countIn ws ≤ 8
 head-few ws e = good-head ws e .few
@@ -118,15 +134,19 @@ pub head-behind : (ws : List ℕ) → headRefusal ws ≡ 0 → headLength ≤ le
 head-behind ws e = omega (arith, head-long ws e)
 
 -- the head gives no number of the body's
-pub head-below : (ws : List ℕ) → headRefusal ws < 15
+pub head-other : (ws : List ℕ) → (headRefusal ws ≡ 15 → ⊥) × (headRefusal ws ≡ 16 → ⊥)
 unfolding headRefusal
-head-below ws = below (begins ws) (formed ws) (uncounted (maskIn ws))
+head-other ws =
+    other (begins ws) (leb headLength (length ws)) (maskOk (maskIn ws)) (layersOk (infoIn ws)) (sectorsOk (infoIn ws)) (uncounted (maskIn ws))
   where
-    below : (a b c : Bool) → (if not a then 12 else if not b then 13 else if c then 14 else 0) < 15
-    below false b c = omega arith
-    below true false c = omega arith
-    below true true true = omega arith
-    below true true false = omega arith
+    other : (a l m y s c : Bool) → (firsts a l m y s c ≡ 15 → ⊥) × (firsts a l m y s c ≡ 16 → ⊥)
+    other false l m y s c = (λ e. absurd (omega arith), λ e. absurd (omega arith))
+    other true false m y s c = (λ e. absurd (omega arith), λ e. absurd (omega arith))
+    other true true false y s c = (λ e. absurd (omega arith), λ e. absurd (omega arith))
+    other true true true false s c = (λ e. absurd (omega arith), λ e. absurd (omega arith))
+    other true true true true false c = (λ e. absurd (omega arith), λ e. absurd (omega arith))
+    other true true true true true true = (λ e. absurd (omega arith), λ e. absurd (omega arith))
+    other true true true true true false = (λ e. absurd (omega arith), λ e. absurd (omega arith))
 
 -- the first three words, and those behind them, which change nothing for the head
 pub three : (ws : List ℕ) → headLength ≤ length ws → ws ≡ getD ws 0 0 ∷ maskIn ws ∷ infoIn ws ∷ drop headLength ws

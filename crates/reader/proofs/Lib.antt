@@ -2,6 +2,7 @@ pub mod Heads
 pub mod SectorPlaces
 pub mod Loops
 pub mod Bodies
+pub mod Ends
 pub mod Readouts
 pub mod Accepted
 pub mod PointPlaces

@@ -15,6 +15,7 @@ use Rattle.reader.specs.declared.Found.the-variants.{Cut, Whole}
 use Rattle.reader.specs.declared.Sectors.{Sectors}
 use Rattle.reader.specs.declared.SectorReading.{SectorReading}
 use Rattle.reader.specs.Sectors.{sector, blankSector, foundOf}
+use Rattle.reader.specs.Endings.{wholes}
 use Rattle.reader.specs.Places.{fromPlace, SectorsRead}
 use Rattle.reader.proofs.SectorPlaces.{sector-lawful}
 
@@ -49,26 +50,37 @@ pub record SoFar (words : List ℕ) (mask count from : ℕ) (list : List SectorR
   pub blanks : drop k list ≡ replicate (8 - k) blankSector
   pub found : timesParse count (sector mask .parse) from (drop from words)
       ≡ mapGot (λ ys. take k list ++ ys) (timesParse (count - k) (sector mask .parse) at (drop at words))
+  pub whole : wholes count (sector mask .parse) from (drop from words) ≡ wholes (count - k) (sector mask .parse) at (drop at words) + k
 
 module _ (words : List ℕ) (mask count from : ℕ) where
   pub starts : (b : SectorReading) → b ≡ blankSector → from ≤ length words → SoFar words mask count from (replicate 8 b) from 0
   starts b e h =
       let all : count - 0 ≡ count = omega arith in
-      rw e (record { counted = zero-le; place = h; slots = length-replicate 8 blankSector; blanks = refl; found = rw all (map-none _) })
+      rw e
+      (record {
+        counted = zero-le;
+        place = h;
+        slots = length-replicate 8 blankSector;
+        blanks = refl;
+        found = rw all (map-none _);
+        whole = rw all (omega arith);
+      })
 
-  -- nothing was read whole
+  -- not all were read
   none-read : (r : Sectors) → r .at ≡ length words + 1 → r .list ≡ replicate 8 blankSector
       → fromPlace (times count (sector mask)) words from ≡ short
+      → (from ≤ length words → r .begun ≡ wholes count (sector mask .parse) from (drop from words) + 1)
       → SectorsRead words mask count from r
-  none-read r p q e = record { is = rw e (λ j. record { at = p j; list = q j }); within = omega arith }
+  none-read r p q e n = record { place = rw e p; list = rw e q; all = λ h k. absurd (omega arith); cut = λ h k. n h; within = omega arith }
 
   pub past-end : length words < from → (r : Sectors) → r .at ≡ length words + 1 → r .list ≡ replicate 8 blankSector
       → SectorsRead words mask count from r
-  past-end h r p q = none-read r p q (rw (lt-leb from (length words) h))
+  past-end h r p q = none-read r p q (rw (lt-leb from (length words) h)) (λ k. absurd (omega arith))
 
   module _ (list : List SectorReading) (at k : ℕ) (h : SoFar words mask count from list at k) where
     -- the loop is done
-    pub all-read : count ≤ k → count ≤ 8 → from ≤ length words → SectorsRead words mask count from (record { at = at; list = list })
+    pub all-read : count ≤ k → count ≤ 8 → from ≤ length words
+        → SectorsRead words mask count from (record { at = at; begun = k; list = list })
     all-read done few inside =
         let n : k ≤ count = h .counted in
         let all : k ≡ count = omega arith in
@@ -79,20 +91,27 @@ module _ (words : List ℕ) (mask count from : ℕ) where
         rw (length-take-le count list (omega arith)) (sym (take-append-drop count list) ∙ ap (λ ys. take count list ++ ys) (rw all at (h .blanks))) in
         let ends : timesParse count (sector mask .parse) from (drop from words) ≡ got (take count list) at (drop at words) =
         rw all at (h .found) ∙ rw (none, append-nil) in
-        record { is = rw (le-leb from (length words) inside, ends) (λ j. record { at = at; list = full j }); within = omega arith }
+        record {
+          place = rw (le-leb from (length words) inside, ends);
+          list = rw (le-leb from (length words) inside, ends) full;
+          all = λ _ _. all;
+          cut = λ _ past. absurd (omega arith);
+          within = omega arith;
+        }
 
     module _ (more : k < count) (r : Found) (e : r ≡ foundOf (sector mask .parse at (take (length words - at) (drop at words)))) where
       answered : foundOf (sector mask .parse at (drop at words)) ≡ r
       answered = rw rest-all at (sym e)
 
       -- one turn finds that the words end early
-      pub cut-off : r ≡ Cut → from ≤ length words → (s : Sectors) → s .at ≡ length words + 1 → s .list ≡ replicate 8 blankSector
+      pub cut-off : r ≡ Cut → from ≤ length words → (s : Sectors) → s .at ≡ length words + 1 → s .begun ≡ k + 1 → s .list ≡ replicate 8 blankSector
           → SectorsRead words mask count from s
-      cut-off q inside s a l =
+      cut-off q inside s a b l =
           let left : count - k ≡ suc (count - (k + 1)) = omega arith in
           let here : sector mask .parse at (drop at words) ≡ short = cut-short _ (answered ∙ q) in
           let cut : timesParse count (sector mask .parse) from (drop from words) ≡ short = h .found ∙ rw (left, here) in
-          none-read s a l (rw (le-leb from (length words) inside, cut))
+          let whole : wholes count (sector mask .parse) from (drop from words) ≡ 0 + k = h .whole ∙ rw (left, here) in
+          none-read s a l (rw (le-leb from (length words) inside, cut)) (λ _. omega arith)
 
       -- one turn finds a sector
       turned : (a : SectorReading) (next : ℕ) (ws′ : List ℕ) → sector mask .parse at (drop at words) ≡ got a next ws′ → count ≤ 8
@@ -112,6 +131,7 @@ module _ (words : List ℕ) (mask count from : ℕ) where
             slots = length-set list k a ∙ h .slots;
             blanks = drop-set-lt (k + 1) list k a (omega arith) ∙ sym (drop-drop 1 k list) ∙ ap (drop 1) (h .blanks) ∙ rw room;
             found = h .found ∙ rw (left, e, sound .rest, one-more) (map-more (take k list) a (timesParse (count - (k + 1)) (sector mask .parse) next ws′));
+            whole = h .whole ∙ rw (left, e, sound .rest) (omega arith);
           }
 
       pub turns : (a : SectorReading) (next : ℕ) → r ≡ Whole a next → count ≤ 8 → SoFar words mask count from (set list k a) next (k + 1)

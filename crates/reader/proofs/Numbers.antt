@@ -1,21 +1,23 @@
 -- Demand 1 of the reader: each number for no is given exactly then, and with it nothing else.
 use Prim.Native.Nat.{ℕ, _≤_}
 use mathlib.Core.Path.{_≡_, refl, sym, _∙_, ap, subst}
-use mathlib.Core.Bool.{Bool, true, false}
+use mathlib.Core.Logic.{_↔_}
+use mathlib.Core.Bool.{Bool, true, false, not, _&&_}
 use mathlib.Core.List.{List, [], _∷_, _++_, append-assoc, append-nil}
 use native.Mathlib.Omega.{arith}
-use lib.Dec.{T, ltb}
+use lib.Dec.{T, eqb, ltb}
 use lib.ListN.{length, drop}
 use borrow.Author.Tests.{ltb-true, ltb-false}
-use Rattle.words.specs.Lists.{some}
+use Rattle.words.specs.Lists.{some, none, this}
+use Rattle.words.specs.Numbers.{firstOf}
 use Rattle.words.proofs.Extends.{Extended, ExtendedOf}
 use Rattle.layout.specs.Fields.{Fields}
 use Rattle.layout.specs.Layout.{layout, Acceptable, headLength}
 use Rattle.reader.specs.declared.Reading.{Reading}
 use Rattle.reader.specs.Readings.{maskIn, countIn, headRefusal, body, refusedReading, readOf}
 use Rattle.reader.specs.Stretches.{stretchRefusalOf, stretchOf}
-use Rattle.reader.specs.Demands.{EndEarly, LeftOver, RefusalsExactly, RefusalsGiveNothing, StretchNumbers}
-use Rattle.reader.proofs.Heads.{GoodHead, head-below, head-front}
+use Rattle.reader.specs.Demands.{headNumbers, EndEarly, LeftOver, RefusalsExactly, RefusalsGiveNothing, StretchNumbers}
+use Rattle.reader.proofs.Heads.{GoodHead, head-other, head-front}
 use Rattle.reader.proofs.HeadNumbers.{head-table}
 use Rattle.reader.proofs.Bodies.{body-extends}
 use Rattle.reader.proofs.Accepted.{Parsed, Outcome, refused, cut, over, whole, by-head, outcome, has-sector}
@@ -38,6 +40,10 @@ not-within f g v w more t e =
     let taken : readOf (layout g ++ more) .refusal ≡ 0 = subst (λ (ws : List ℕ). readOf ws .refusal ≡ 0) e (reads-back f v .0) in
     omega (arith, over-laid g w more t)
 
+-- neither 0 nor one of the body's
+abbrev ofHead : ℕ → Bool
+ofHead n = not (eqb n 0) && not (eqb n 15) && not (eqb n 16)
+
 module _ (ws : List ℕ) where
   -- where the body's words end early, more of them make a profile
   early-laid : GoodHead ws → Extended (body (maskIn ws) (countIn ws)) (drop headLength ws) → EndEarly ws
@@ -45,19 +51,22 @@ module _ (ws : List ℕ) where
       let words = laid ws h (t .fields) (t .fits) (t .more) [] (t .words ∙ sym (append-nil _)) ∙ append-nil _ in
       (h .long, (fieldsOf (maskIn ws) (t .fields), t .more, acceptable ws h (t .fields) (t .fits), t .some-more, words))
 
-  -- 12 to 14 are the head's
-  is-head : {r : Reading} → Outcome ws r → (n : ℕ) → 12 ≤ n → n ≤ 14 → r .refusal ≡ n → headRefusal ws ≡ n
-  is-head (refused h) n from to e = e
-  is-head (cut h p) n from to e = absurd (omega arith)
-  is-head (over s) n from to e = absurd (omega arith)
-  is-head (whole s) n from to e = absurd (omega arith)
+  -- every number but 0, 15 and 16 is the head's
+  is-head : {r : Reading} → Outcome ws r → (n : ℕ) → T (ofHead n) → r .refusal ≡ n → headRefusal ws ≡ n
+  is-head (refused h) n t e = e
+  is-head (cut h p) n t e = absurd (subst (λ (m : ℕ). T (ofHead m)) (sym e) t)
+  is-head (over s) n t e = absurd (subst (λ (m : ℕ). T (ofHead m)) (sym e) t)
+  is-head (whole s) n t e = absurd (subst (λ (m : ℕ). T (ofHead m)) (sym e) t)
 
-  head-is : (n : ℕ) → 12 ≤ n → headRefusal ws ≡ n → readOf ws .refusal ≡ n
-  head-is n from e = ap (λ (r : Reading). r .refusal) (by-head ws (λ z. absurd (omega arith))) ∙ e
+  head-is : (n : ℕ) → T (ofHead n) → headRefusal ws ≡ n → readOf ws .refusal ≡ n
+  head-is n t e = ap (λ (r : Reading). r .refusal) (by-head ws (λ z. subst (λ (m : ℕ). T (ofHead m)) (sym e ∙ z) t)) ∙ e
+
+  exactly : (n : ℕ) → T (ofHead n) → (readOf ws .refusal ≡ n) ↔ (firstOf (headNumbers ws) ≡ n)
+  exactly n t = (λ e. head-table ws ∙ is-head (outcome ws) n t e, λ e. head-is n t (sym (head-table ws) ∙ e))
 
   -- 15 says that the words end early
   is-early : {r : Reading} → Outcome ws r → r .refusal ≡ 15 → EndEarly ws
-  is-early (refused h) e = absurd (omega (arith, head-below ws))
+  is-early (refused h) e = absurd (head-other ws .0 e)
   is-early (cut h p) e =
       early-laid h (subst (ExtendedOf (body (maskIn ws) (countIn ws)) (drop headLength ws)) p (body-extends (maskIn ws) (countIn ws) .extend ws headLength))
   is-early (over s) e = absurd (omega arith)
@@ -83,13 +92,13 @@ module _ (ws : List ℕ) where
 
   -- 16 says that words are left over
   is-over : {r : Reading} → Outcome ws r → r .refusal ≡ 16 → LeftOver ws
-  is-over (refused h) e = absurd (omega (arith, head-below ws))
+  is-over (refused h) e = absurd (head-other ws .1 e)
   is-over (cut h p) e = absurd (omega arith)
   is-over (over {w} {rest} s) e = (fields s, w ∷ rest, fields-fit s, tt, laid-out s)
   is-over (whole s) e = absurd (omega arith)
 
-  -- a refused reading has nothing but its number
-  is-blank : {r : Reading} → Outcome ws r → (r .refusal ≡ 0 → ⊥) → r ≡ refusedReading (r .refusal)
+  -- a refused reading has nothing but its number and its place
+  is-blank : {r : Reading} → Outcome ws r → (r .refusal ≡ 0 → ⊥) → r ≡ refusedReading (r .refusal) (r .place)
   is-blank (refused h) n = refl
   is-blank (cut h p) n = refl
   is-blank (over s) n = refl
@@ -108,10 +117,10 @@ module _ (ws : List ℕ) where
 pub refusals-exactly : RefusalsExactly
 refusals-exactly ws =
     record {
-      by-head = λ n from to. (
-        λ e. head-table ws ∙ is-head ws (outcome ws) n from to e,
-        λ e. head-is ws n from (sym (head-table ws) ∙ e),
-      );
+      by-head =
+          this (exactly ws 12 tt)
+          (this (exactly ws 13 tt)
+          (this (exactly ws 22 tt) (this (exactly ws 23 tt) (this (exactly ws 24 tt) (this (exactly ws 14 tt) none)))));
       early = (is-early ws (outcome ws), λ t. early-is ws (t .0) (t .1 .0) (t .1 .1) (t .1 .2) (t .1 .3) (t .1 .4) (outcome ws));
       over = (
         is-over ws (outcome ws),

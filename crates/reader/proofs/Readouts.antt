@@ -4,10 +4,11 @@ use mathlib.Core.List.{List}
 use Prim.Native.Nat.{ℕ}
 use borrow.Author.Tests.{eq-eqb, ne-eqb}
 use Rattle.reader.specs.declared.Reading.{Reading}
+use Rattle.reader.specs.declared.Place.the-variants.{Nowhere}
 use Rattle.reader.specs.Readings.{headRefusal, refusedReading, bodyOf, readOf}
 
 module _ (ws : List ℕ) (n : ℕ) (head : n ≡ headRefusal ws) (r : Reading) where
-  pub refused-head : (n ≡ 0 → ⊥) → r ≡ refusedReading n → r ≡ readOf ws
+  pub refused-head : (n ≡ 0 → ⊥) → r ≡ refusedReading n Nowhere → r ≡ readOf ws
   unfolding readOf
   refused-head h e = rw (← head, ne-eqb n 0 h) e
 

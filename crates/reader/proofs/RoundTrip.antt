@@ -15,8 +15,11 @@ use Rattle.layout.specs.Fields.{SectorFields, Fields}
 use Rattle.layout.specs.Layout.{layout, Acceptable, headLength, oneLayer}
 use Rattle.reader.specs.declared.SectorReading.{SectorReading}
 use Rattle.reader.specs.declared.Reading.{Reading}
+use Rattle.reader.specs.declared.Place.{Place}
+use Rattle.reader.specs.declared.Place.the-variants.{At}
 use Rattle.reader.specs.Sectors.{sector, blankSector}
-use Rattle.reader.specs.Readings.{maskIn, countIn, infoOk, headRefusal, Body, sectorsIn, body, acceptedReading, ended, readOf}
+use Rattle.reader.specs.Endings.{partMissing}
+use Rattle.reader.specs.Readings.{maskIn, countIn, layersOk, sectorsOk, headRefusal, Body, sectorsIn, body, acceptedReading, ended, readOf}
 use Rattle.reader.specs.Stretches.{fieldsIn}
 use Rattle.reader.specs.Demands.{AcceptsExactly, PutTogether, ReadsBack, OneReading}
 use Rattle.reader.proofs.Heads.{passed}
@@ -62,21 +65,26 @@ module _ (f : Fields) (w : Acceptable f) (more : List ℕ) where
   counts : (oneLayer + n) % 256 ≡ n
   counts = let h : n ≤ 8 = w .few in omega arith
 
-  third-ok : infoOk (oneLayer + n) ≡ true
-  third-ok =
-      let few : n ≤ 8 = w .few in
-      let some : 1 ≤ n = w .some-sector in
-      rw (eq-eqb ((oneLayer + n) / 256) 1 (omega arith), counts, le-leb 1 n some, le-leb n 8 few)
+  one-layer : layersOk (oneLayer + n) ≡ true
+  one-layer = let few : n ≤ 8 = w .few in eq-eqb ((oneLayer + n) / 256) 1 (omega arith)
+
+  some-sectors : sectorsOk (oneLayer + n) ≡ true
+  some-sectors = rw (counts, le-leb 1 n (w .some-sector), le-leb n 8 (w .few))
 
   pub head-passes : headRefusal (layout f ++ more) ≡ 0
   head-passes =
-      sym (passed (layout f ++ more) (λ z. omega arith) refl (omega arith) (is-true (w .mask)) third-ok refl (not-true (uncounted m) (is-true (w .counted))))
+      sym
+      (passed (layout f ++ more) (λ z. omega arith) refl (omega arith) (is-true (w .mask)) one-layer some-sectors refl
+      (not-true (uncounted m) (is-true (w .counted))))
 
   pub read-back : Complete (body m n) (layout f ++ more) headLength (bodyFields f) more
   read-back =
       body-lawful m n .complete (layout f ++ more) headLength (bodyFields f) more (body-ok f (w .fits)) (ap (λ (ws : List ℕ). ws ++ more) (rest-put m n f))
 
-  pub reading : readOf (layout f ++ more) ≡ ended m n (got (read-back .value) (read-back .place) more)
+  abbrev end : Place
+  end = At (length (layout f ++ more)) (partMissing m n (layout f ++ more))
+
+  pub reading : readOf (layout f ++ more) ≡ ended m n end (got (read-back .value) (read-back .place) more)
   reading = rw counts at (by-body (layout f ++ more) head-passes {g = got (read-back .value) (read-back .place) more} (rw counts (read-back .reads)))
 
   same-fields : fieldsIn (layout f ++ more) (acceptedReading m n (read-back .value)) ≡ f

@@ -1,20 +1,24 @@
--- What is promised of the reader, as statements. The proofs stand in proofs/RoundTrip.antt, Numbers.antt, PointNumbers.antt, Standing.antt
--- and, of the last, ByPlace.antt.
+-- What is promised of the reader, as statements. The proofs stand in proofs/RoundTrip.antt, Numbers.antt, PointNumbers.antt, Standing.antt,
+-- Parts.antt and, of the last, ByPlace.antt.
 use mathlib.Core.Path.{_≡_}
 use mathlib.Core.Logic.{_↔_, _⊎_}
 use mathlib.Core.Bool.{false, not, _&&_, _||_}
 use mathlib.Core.List.{List, [], _∷_, _++_}
-use Prim.Native.Nat.{ℕ, _/_, _%_, _≤_, _<_}
+use Prim.Native.Nat.{ℕ, _+_, _/_, _%_, _≤_, _<_}
 use lib.Dec.{T, eqb, ltb}
-use lib.ListN.{length, getD}
+use lib.ListN.{length, getD, take, drop}
 use Rattle.words.specs.Bits.{bit}
-use Rattle.words.specs.Lists.{some}
+use Rattle.words.specs.Lists.{some, Each}
 use Rattle.words.specs.Numbers.{No, no, firstOf}
-use Rattle.words.specs.Words.{numberOf}
+use Rattle.words.specs.Words.{numberOf, laidAll}
 use Rattle.layout.specs.Bits as bits
 use Rattle.layout.specs.Masks.{pointWidth}
 use Rattle.layout.specs.Fields.{Fields}
-use Rattle.layout.specs.Layout.{layout, Acceptable}
+use Rattle.layout.specs.Layout.{head, layoutSector, front, status, layout, Acceptable}
+use Rattle.reader.specs.declared.Part.{Part}
+use Rattle.reader.specs.declared.Part.the-variants.{Head, Sector, Senstat}
+use Rattle.reader.specs.declared.Place.the-variants.{At}
+use Rattle.reader.specs.Endings.{placeNumbers}
 use Rattle.reader.specs.Readings.{maskIn, refusedReading, readOf}
 use Rattle.reader.specs.Sectors.{blankSector}
 use Rattle.reader.specs.Stretches.{stretchRefusalOf, stretchOf, stretchStart, fieldsIn, wordsBefore, together}
@@ -43,33 +47,68 @@ EndEarly ws = (3 ≤ length ws) × ((f : Fields) × (more : List ℕ) × Accepta
 abbrev pub LeftOver : List ℕ → Type 0
 LeftOver ws = (f : Fields) × (more : List ℕ) × Acceptable f × T (some more) × (ws ≡ layout f ++ more)
 
--- the table of numbers 12 to 14: no word, or another first one; fewer than 3 words, mask 0 or with a reserved bit, another number of layers
--- than 1, or of sectors than 1 to 8; words of points without their number (rule 6.1)
+-- the table of the head's numbers, in their order: no word, or another first one; fewer than 3 words; mask 0, or with a reserved bit;
+-- another number of layers than 1; another number of sectors than 1 to 8; words of points without their number (rule 6.1)
 abbrev pub headNumbers : List ℕ → List No
 headNumbers ws =
     let mask = getD ws 1 0 in
     let info = getD ws 2 0 in
     no 12 (eqb (length ws) 0 || not (eqb (getD ws 0 0) 0x8301))
-    ∷ no 13 (
-    ltb (length ws) 3
-    || eqb mask 0
-    || bit mask 14
-    || bit mask 15
-    || not (eqb (info / 256) 1)
-    || ltb (info % 256) 1
-    || ltb 8 (info % 256)
-    )
+    ∷ no 13 (ltb (length ws) 3)
+    ∷ no 22 (eqb mask 0 || bit mask 14 || bit mask 15)
+    ∷ no 23 (not (eqb (info / 256) 1))
+    ∷ no 24 (ltb (info % 256) 1 || ltb 8 (info % 256))
     ∷ no 14 ((bit mask 8 || bit mask 9 || bit mask 10) && not (bit mask 5))
     ∷ []
 
--- each number of the reader is given exactly then: the first of those that is due; 15 and 16, which come behind them (rule 6.1)
+-- each number of the reader is given exactly then: one of the table where it is the first that is due; 15 and 16, which come behind them
+-- (rule 6.1)
 pub record Numbered (ws : List ℕ) : Type 0 where
-  pub by-head : (n : ℕ) → 12 ≤ n → n ≤ 14 → (readOf ws .refusal ≡ n) ↔ (firstOf (headNumbers ws) ≡ n)
+  pub by-head : Each (λ (n : No). (readOf ws .refusal ≡ n .number) ↔ (firstOf (headNumbers ws) ≡ n .number)) (headNumbers ws)
   pub early : (readOf ws .refusal ≡ 15) ↔ EndEarly ws
   pub over : (readOf ws .refusal ≡ 16) ↔ LeftOver ws
 
 abbrev pub RefusalsExactly : Type 0
 RefusalsExactly = (ws : List ℕ) → Numbered ws
+
+-- the words of a profile in front of a part, and those of the part (rule 5.5)
+abbrev pub inFront : Fields → Part → List ℕ
+inFront f Head = []
+inFront f (Sector k) = head (f .mask) (length (f .sectors)) ++ front f ++ laidAll layoutSector (take k (f .sectors))
+inFront f Senstat = head (f .mask) (length (f .sectors)) ++ front f ++ laidAll layoutSector (f .sectors)
+
+abbrev pub wordsOfPart : Fields → Part → List ℕ
+wordsOfPart f Head = head (f .mask) (length (f .sectors)) ++ front f
+wordsOfPart f (Sector k) = laidAll layoutSector (take 1 (drop k (f .sectors)))
+wordsOfPart f Senstat = status f
+
+-- the word at an index is one of the part's (rule 5.16)
+pub record Belongs (f : Fields) (index : ℕ) (p : Part) : Type 0 where
+  pub from : length (inFront f p) ≤ index
+  pub below : index < length (inFront f p) + length (wordsOfPart f p)
+
+-- every word of a profile belongs to one part, and to no other (rule 5.16)
+pub record OnePart (f : Fields) (index : ℕ) : Type 0 where
+  pub part : Part
+  pub belongs : Belongs f index part
+  pub only : (p : Part) → Belongs f index p → p ≡ part
+
+abbrev pub PartsTile : Type 0
+PartsTile = (f : Fields) (index : ℕ) → index < length (layout f) → OnePart f index
+
+-- the first missing word belongs to the part: in a profile that the words may go on to be, and in every profile that begins with them
+-- (rule 5.16)
+pub record EndsIn (ws : List ℕ) (p : Part) : Type 0 where
+  pub in-one : (f : Fields) × (more : List ℕ) × Acceptable f × (ws ++ more ≡ layout f) × Belongs f (length ws) p
+  pub in-every : (f : Fields) (more : List ℕ) → Acceptable f → ws ++ more ≡ layout f → Belongs f (length ws) p
+
+-- with 15 there is a place, at the index that is the number of the words, and its part is right; with no other number there is one (rule 5.16)
+pub record Ending (ws : List ℕ) : Type 0 where
+  pub there : readOf ws .refusal ≡ 15 → (p : Part) × (readOf ws .place ≡ At (length ws) p) × EndsIn ws p
+  pub nowhere : (readOf ws .refusal ≡ 15 → ⊥) → placeNumbers (readOf ws .place) .part ≡ 0
+
+abbrev pub EndsPlaced : Type 0
+EndsPlaced = (ws : List ℕ) → Ending ws
 
 -- of a stretch: the reader's number where it has one, else 17 exactly where there is no sector at the place (rule 5.13)
 pub record Placed (ws : List ℕ) (place : ℕ) : Type 0 where
@@ -80,9 +119,9 @@ pub record Placed (ws : List ℕ) (place : ℕ) : Type 0 where
 abbrev pub StretchNumbers : Type 0
 StretchNumbers = (ws : List ℕ) (place : ℕ) → Placed ws place
 
--- a reading with a number for no has nothing else, and a stretch with one is empty (rule 5.14)
+-- a reading with a number for no has nothing else but the place, and a stretch with one is empty (rule 5.14)
 pub record Blank (ws : List ℕ) : Type 0 where
-  pub reading : (readOf ws .refusal ≡ 0 → ⊥) → readOf ws ≡ refusedReading (readOf ws .refusal)
+  pub reading : (readOf ws .refusal ≡ 0 → ⊥) → readOf ws ≡ refusedReading (readOf ws .refusal) (readOf ws .place)
   pub stretch : (place : ℕ) → (stretchRefusalOf ws place ≡ 0 → ⊥) → stretchOf ws place ≡ []
 
 abbrev pub RefusalsGiveNothing : Type 0

@@ -1,5 +1,6 @@
 -- To be read in this order.
 pub mod Sectors
+pub mod Endings
 pub mod Readings
 pub mod Places
 pub mod Stretches

@@ -1,4 +1,4 @@
--- Rules 5.10 to 5.14 and the numbers 12 to 16: what the reader gives for a list of words.
+-- Rules 5.10 to 5.14 and 5.16, and the numbers 12 to 16 and 22 to 24: what the reader gives for a list of words.
 use mathlib.Core.Path.{_≡_}
 use mathlib.Core.Bool.{Bool, not, _&&_}
 use mathlib.Core.List.{List, [], _∷_, _++_}
@@ -18,7 +18,10 @@ use Rattle.layout.specs.Fields.{SectorFields}
 use Rattle.layout.specs.Layout.{profileCode, headLength}
 use Rattle.reader.specs.declared.SectorReading.{SectorReading}
 use Rattle.reader.specs.declared.Reading.{Reading}
+use Rattle.reader.specs.declared.Place.{Place}
+use Rattle.reader.specs.declared.Place.the-variants.{Nowhere, At}
 use Rattle.reader.specs.Sectors.{sector, blankSector}
+use Rattle.reader.specs.Endings.{partMissing}
 
 -- the second word; the third; and the number of sectors, its low byte (rule 5.4)
 abbrev pub maskIn : List ℕ → ℕ
@@ -30,20 +33,26 @@ infoIn ws = getD ws 2 0
 abbrev pub countIn : List ℕ → ℕ
 countIn ws = infoIn ws % 256
 
--- the third word: one layer, its high byte, and 1 to 8 sectors (rule 5.4)
-abbrev pub infoOk : ℕ → Bool
-infoOk info = eqb (info / 256) 1 && leb 1 (info % 256) && leb (info % 256) 8
+-- the third word: one layer, its high byte; 1 to 8 sectors, its low byte (rule 5.4)
+abbrev pub layersOk : ℕ → Bool
+layersOk info = eqb (info / 256) 1
 
--- the words begin as a profile does, and the words that depend on no bit are there and such as a profile has (rule 6.1)
+abbrev pub sectorsOk : ℕ → Bool
+sectorsOk info = leb 1 (info % 256) && leb (info % 256) 8
+
+-- the words begin as a profile does (rule 6.1)
 abbrev pub begins : List ℕ → Bool
 begins ws = some ws && eqb (getD ws 0 0) profileCode
 
-abbrev pub formed : List ℕ → Bool
-formed ws = leb headLength (length ws) && maskOk (maskIn ws) && infoOk (infoIn ws)
-
--- 12 to 14, by these words; 0 for none (rule 6.1)
+-- 12, 13, 22, 23, 24 and 14, by the words that depend on no bit; 0 for none (rule 6.1)
 unfoldable pub headRefusal : List ℕ → ℕ
-headRefusal ws = if not (begins ws) then 12 else if not (formed ws) then 13 else if uncounted (maskIn ws) then 14 else 0
+headRefusal ws =
+    if not (begins ws) then 12 else
+    if not (leb headLength (length ws)) then 13 else
+    if not (maskOk (maskIn ws)) then 22 else
+    if not (layersOk (infoIn ws)) then 23 else
+    if not (sectorsOk (infoIn ws)) then 24 else
+    if uncounted (maskIn ws) then 14 else 0
 
 -- what stands behind the first three words, with the sectors as S has them (rule 5.5)
 abbrev pub Body : Type 0 → Type 0
@@ -68,11 +77,12 @@ body mask count =
 abbrev pub padded : List SectorReading → List SectorReading
 padded xs = xs ++ replicate (8 - length xs) blankSector
 
--- with a number for no, and nothing else (rule 5.14)
-abbrev pub refusedReading : ℕ → Reading
-refusedReading refusal =
+-- with a number for no, the place that 15 has, and nothing else (rules 5.14 and 5.16)
+abbrev pub refusedReading : ℕ → Place → Reading
+refusedReading refusal at =
     record {
       refusal = refusal;
+      place = at;
       mask = Absent;
       sent = Absent;
       counter = Absent;
@@ -87,6 +97,7 @@ abbrev pub acceptedReading : ℕ → ℕ → Body SectorReading → Reading
 acceptedReading mask count a =
     record {
       refusal = 0;
+      place = Nowhere;
       mask = Given mask;
       sent = a .0;
       counter = a .1 .0;
@@ -97,18 +108,22 @@ acceptedReading mask count a =
       low = a .1 .1 .1 .1 .1 .0;
     }
 
+-- the place at which the words end, if they end early: the index of the first missing word is their number (rule 5.16)
+abbrev pub endOf : List ℕ → Place
+endOf ws = At (length ws) (partMissing (maskIn ws) (countIn ws) ws)
+
 -- 15 where the words end early, 16 where words are left over (rule 6.1)
-abbrev pub ended : ℕ → ℕ → Got (Body SectorReading) → Reading
-ended mask count short = refusedReading 15
-ended mask count (got a place []) = acceptedReading mask count a
-ended mask count (got a place (w ∷ ws)) = refusedReading 16
+abbrev pub ended : ℕ → ℕ → Place → Got (Body SectorReading) → Reading
+ended mask count end short = refusedReading 15 end
+ended mask count end (got a at []) = acceptedReading mask count a
+ended mask count end (got a at (w ∷ ws)) = refusedReading 16 Nowhere
 
 unfoldable pub bodyOf : List ℕ → Reading
-bodyOf ws = ended (maskIn ws) (countIn ws) (body (maskIn ws) (countIn ws) .parse headLength (drop headLength ws))
+bodyOf ws = ended (maskIn ws) (countIn ws) (endOf ws) (body (maskIn ws) (countIn ws) .parse headLength (drop headLength ws))
 
 -- what the reader gives (rule 5.10)
 unfoldable pub readOf : List ℕ → Reading
-readOf ws = if eqb (headRefusal ws) 0 then bodyOf ws else refusedReading (headRefusal ws)
+readOf ws = if eqb (headRefusal ws) 0 then bodyOf ws else refusedReading (headRefusal ws) Nowhere
 
 -- what is promised of `read` (rule 5.11)
 abbrev pub ReadSays : List ℕ → Reading → Type 0

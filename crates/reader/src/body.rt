@@ -1,6 +1,10 @@
 // A whole profile.
 ghost use mathlib.Core.Path.{_≡_};
+ghost use Prim.Native.Nat.{_≤_};
 ghost use Rattle.reader.specs.Readings.{headRefusal, refusedReading, bodyOf, ReadSays};
+ghost use Rattle.reader.specs.Places.{partBy};
+use crate::Part;
+use crate::Place;
 use crate::Reading;
 use crate::head::head_refusal;
 use crate::sector::blank;
@@ -11,11 +15,12 @@ use words::Word;
 use words::take_word;
 
 // A refused reading: every field absent (rule 5.14).
-fn refused(refusal: u16) -> Reading
-    ensures { λ r. ⌜ r ≡ refusedReading refusal ⌝ }
+fn refused(refusal: u16, place: Place) -> Reading
+    ensures { λ r. ⌜ r ≡ refusedReading refusal place ⌝ }
 {
     Reading {
         refusal,
+        place,
         mask: Word::Absent,
         sent: Word::Absent,
         counter: Word::Absent,
@@ -25,6 +30,20 @@ fn refused(refusal: u16) -> Reading
         high: Word::Absent,
         low: Word::Absent,
     }
+}
+
+// The part at which so many words end, by the place behind the head, that behind the sectors, and how many of them were begun (rule 5.16).
+fn part_missing(len: usize, head: usize, sectors: usize, begun: usize) -> Part
+    requires { ⌜ (head ≤ len → 1 ≤ begun) ⌝ }
+    ensures { λ r. ⌜ r ≡ partBy len head sectors begun ⌝ }
+{
+    if len < head {
+        return Part::Head;
+    }
+    if len < sectors {
+        return Part::Sector(begun - 1);
+    }
+    Part::Senstat
 }
 
 // What stands behind the first three words: refusals 15 and 16, or the reading (rule 6.1).
@@ -42,10 +61,12 @@ fn read_body(words: &[u16]) -> Reading
     let high = take_word(words, found.at, mask, bits::SENSTAT);
     let low = take_word(words, high.at, mask, bits::SENSTAT);
     if words.len() < low.at {
-        return refused(15);
+        let part = part_missing(words.len(), layer.at, found.at, found.begun);
+        // past the end, the place reached is just behind the first missing word
+        return refused(15, Place::At(low.at - 1, part));
     }
     if low.at < words.len() {
-        return refused(16);
+        return refused(16, Place::Nowhere);
     }
     let sent_word = sent.word;
     let counter_word = counter.word;
@@ -55,6 +76,7 @@ fn read_body(words: &[u16]) -> Reading
     let low_word = low.word;
     Reading {
         refusal: 0,
+        place: Place::Nowhere,
         mask: Word::Given(selected),
         sent: sent_word,
         counter: counter_word,
@@ -72,7 +94,7 @@ pub fn read(words: &[u16]) -> Reading
 {
     let refusal = head_refusal(words);
     if refusal != 0 {
-        return refused(refusal);
+        return refused(refusal, Place::Nowhere);
     }
     read_body(words)
 }

@@ -1,23 +1,27 @@
-// The first three words: refusals 12 to 14.
+// The first three words: refusals 12 to 14 and 22 to 24.
 ghost use mathlib.Core.Path.{_≡_};
-ghost use Rattle.reader.specs.Readings.{infoOk, headRefusal};
+ghost use Rattle.reader.specs.Readings.{layersOk, sectorsOk, headRefusal};
 use layout::HEAD;
 use layout::PROFILE_CODE;
 
-// The third word: its high byte, the layers, is 1, and its low byte, the number of sectors, 1 to 8 (rule 5.4).
-fn info_ok(info: u16) -> bool
-    ensures { λ r. ⌜ r ≡ infoOk info ⌝ }
+// The third word's high byte, the number of layers, is 1 (rule 5.4).
+fn layers_ok(info: u16) -> bool
+    ensures { λ r. ⌜ r ≡ layersOk info ⌝ }
 {
-    if info / 256 != 1 {
-        return false;
-    }
+    info / 256 == 1
+}
+
+// Its low byte, the number of sectors, is 1 to 8 (rule 5.4).
+fn sectors_ok(info: u16) -> bool
+    ensures { λ r. ⌜ r ≡ sectorsOk info ⌝ }
+{
     if info % 256 < 1 {
         return false;
     }
     info % 256 <= 8
 }
 
-// Refusals 12 to 14, 0 for none (rule 6.1).
+// Refusals 12, 13, 22, 23, 24 and 14, tried in this order; 0 for none (rule 6.1).
 pub(crate) fn head_refusal(words: &[u16]) -> u16
     ensures { λ r. ⌜ r ≡ headRefusal (now (words .entry)) ⌝ }
 {
@@ -31,11 +35,15 @@ pub(crate) fn head_refusal(words: &[u16]) -> u16
         return 13;
     }
     let mask = words[1] as u32;
+    let info = words[2];
     if !layout::mask_ok(mask) {
-        return 13;
+        return 22;
     }
-    if !info_ok(words[2]) {
-        return 13;
+    if !layers_ok(info) {
+        return 23;
+    }
+    if !sectors_ok(info) {
+        return 24;
     }
     if layout::is_uncounted(mask) {
         return 14;

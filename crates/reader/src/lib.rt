@@ -23,9 +23,23 @@ pub struct SectorReading {
     pub enddir: Word,
 }
 
-// A profile's words: the number for no, the head, how many sectors there are, the sectors, SENSTAT (rule 5.11).
+// The part of a profile to which a word belongs; a sector goes by its place, from 0 on (rule 5.16).
+pub enum Part {
+    Head,
+    Sector(usize),
+    Senstat,
+}
+
+// Where the words end early, with refusal 15 alone: the index of the first missing word, and its part (rule 5.16).
+pub enum Place {
+    Nowhere,
+    At(usize, Part),
+}
+
+// A profile's words: the number for no and its place, the head, how many sectors there are, the sectors, SENSTAT (rule 5.11).
 pub struct Reading {
     pub refusal: u16,
+    pub place: Place,
     pub mask: Word,
     pub sent: Word,
     pub counter: Word,
@@ -42,8 +56,9 @@ pub(crate) enum Found {
     Whole(SectorReading, usize),
 }
 
-// What reading the sectors finds: the place behind them, one past the end where the words end early, and the sectors.
+// What reading the sectors finds: the place behind them, one past the end where the words end early, how many were begun, and the sectors.
 pub(crate) struct Sectors {
     pub at: usize,
+    pub begun: usize,
     pub list: [SectorReading; 8],
 }

@@ -81,12 +81,13 @@ fn read_sector(rest: &[u16], mask: u32, base: usize) -> Found
     )
 }
 
-// No sector was read whole: the words end early.
-fn no_sectors(at: usize) -> Sectors
-    ensures { λ r. ⌜ (r .at ≡ at) × (r .list ≡ replicate 8 blankSector) ⌝ }
+// The words end early: none of the sectors is handed on, but how many were begun.
+fn no_sectors(at: usize, begun: usize) -> Sectors
+    ensures { λ r. ⌜ (r .at ≡ at) × (r .begun ≡ begun) × (r .list ≡ replicate 8 blankSector) ⌝ }
 {
     Sectors {
         at,
+        begun,
         list: [blank(); 8],
     }
 }
@@ -97,18 +98,18 @@ pub(crate) fn read_sectors(words: &[u16], mask: u32, count: usize, from: usize) 
     ensures { λ r. ⌜ SectorsRead (now (words .entry)) mask count from r ⌝ }
 {
     if words.len() < from {
-        return no_sectors(words.len() + 1);
+        return no_sectors(words.len() + 1, 0);
     }
     let mut list = [blank(); 8];
     let mut at = from;
     let mut k: usize = 0;
     while k < count {
         let Found::Whole(sector, next) = read_sector(&words[at..], mask, at) else {
-            return no_sectors(words.len() + 1);
+            return no_sectors(words.len() + 1, k + 1);
         };
         list[k] = sector;
         at = next;
         k += 1;
     }
-    Sectors { at, list }
+    Sectors { at, begun: k, list }
 }

@@ -2,7 +2,7 @@
 use mir.Facts.{fits-widen}
 use borrow.Author.Needs.{needs}
 use Rattle.words.proofs.Tests.{said-no, said-yes}
-use Rattle.reader.proofs.Heads.{empty, another, too-few, bad-mask, bad-info, no-number, passed}
+use Rattle.reader.proofs.Heads.{empty, another, too-few, bad-mask, bad-layers, bad-sectors, no-number, passed}
 use Rattle.reader.proofs.head.head_refusal.Statement.{statement}
 use Rattle.reader.proofs.head.head_refusal.Tie as tie
 
@@ -16,11 +16,13 @@ head-refusal-spec =
     (λ c. search too-few)
     (λ c. search needs)
     (λ c. fits-widen tt (c .shared-slice-known3 .given 1))
-    (λ c κs. search needs)
-    (λ c. search (bad-mask, said-no))
     (λ c. search needs)
     (λ c κs. search needs)
-    (λ c. search (bad-info, said-no, said-yes))
+    (λ c. search (bad-mask, said-no))
+    (λ c κs. search needs)
+    (λ c. search (bad-layers, said-no, said-yes))
+    (λ c κs. search needs)
+    (λ c. search (bad-sectors, said-no, said-yes))
     (λ c κs. search needs)
     (λ c. search (no-number, said-yes))
     (λ c. search (passed, said-yes)))

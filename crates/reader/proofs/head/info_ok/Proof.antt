@@ -1,7 +1,0 @@
--- `info_ok`: each way out by its tests.
-use Rattle.words.proofs.Tests.{picks}
-use Rattle.reader.proofs.head.info_ok.Statement.{statement}
-use Rattle.reader.proofs.head.info_ok.Tie as tie
-
-pub info-ok-spec : {M : Type 1} → statement M
-info-ok-spec = tie.close (tie.spec (λ c. search picks) (λ c. search picks) (λ c. search picks))
