@@ -19,7 +19,7 @@ use Rattle.layout.specs.Layout.{headLength, layoutSector, SectorFits}
 use Rattle.layout.specs.Lengths.{profileLength, LayoutLength}
 
 -- a word that is there exactly where it is selected
-word-length : (on : Bool) (w : Word) → Shaped on w → length (wordsOf w) ≡ (if on then 1 else 0)
+pub word-length : (on : Bool) (w : Word) → Shaped on w → length (wordsOf w) ≡ (if on then 1 else 0)
 word-length true Absent h = absurd h
 word-length true (Given w) h = refl
 word-length false Absent h = refl

@@ -3,6 +3,8 @@ pub mod SectorPlaces
 pub mod Loops
 pub mod Bodies
 pub mod Ends
+pub mod Prefixes
+pub mod PartsTile
 pub mod Readouts
 pub mod Accepted
 pub mod PointPlaces
@@ -10,6 +12,7 @@ pub mod Laid
 pub mod RoundTrip
 pub mod HeadNumbers
 pub mod Numbers
+pub mod Parts
 pub mod PointNumbers
 pub mod Standing
 pub mod ByPlace
