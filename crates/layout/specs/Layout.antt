@@ -75,7 +75,7 @@ pub record Fits (f : Fields) : Type 0 where
   pub high : Shaped (bit (f .mask) bits.senstat) (f .high)
   pub low : Shaped (bit (f .mask) bits.senstat) (f .low)
 
--- fields whose mask is acceptable, with 1 to 8 sectors and the number of points where there is a word of points: what refusals 13 and 14
+-- fields whose mask is acceptable, with 1 to 8 sectors and the number of points where there is a word of points: what refusals 22, 24 and 14
 -- ask (rules 5.10 and 5.12)
 pub record Acceptable (f : Fields) : Type 0 where
   pub mask : T (maskOk (f .mask))

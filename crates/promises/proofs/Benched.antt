@@ -11,6 +11,8 @@ use Rattle.sensor.specs.Figures.{requestRows}
 use Rattle.sensor.proofs.RequestRows.{request-figures}
 use Rattle.profile.specs.Figures.{profileRows, listingRows}
 use Rattle.profile.proofs.ProfileRows.{profile-figures, listing-figures}
+use Rattle.reader.specs.Figures.{readerRows}
+use Rattle.reader.proofs.ReaderRows.{reader-figures}
 use Rattle.promises.specs.Figures.{BenchFigures}
 
 both : (a b : List Row) → Shown a → Shown b → Shown (a ++ b)
@@ -22,7 +24,9 @@ bench-figures p speed v l m =
     let states = plans ++ stateRows in
     let requests = states ++ requestRows in
     let profiles = requests ++ profileRows in
+    let readings = profiles ++ readerRows in
     let of-plans : Shown plans = both (planRows p speed) (normalRows p) (plan-figures p speed v l m) (normal-figures p) in
     let of-states : Shown states = both plans stateRows of-plans state-figures in
     let of-requests : Shown requests = both states requestRows of-states request-figures in
-    both profiles listingRows (both requests profileRows of-requests profile-figures) listing-figures
+    let of-profiles : Shown profiles = both requests profileRows of-requests profile-figures in
+    both readings listingRows (both profiles readerRows of-profiles reader-figures) listing-figures

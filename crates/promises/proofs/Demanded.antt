@@ -12,6 +12,8 @@ use Rattle.profile.proofs.AllShots.{all-points}
 use Rattle.profile.proofs.Timed.{nearest-times}
 use Rattle.reader.proofs.RoundTrip.{accepts-exactly, put-together, reads-back, one-reading}
 use Rattle.reader.proofs.Numbers as readings
+use Rattle.reader.proofs.PartsTile.{parts-tile}
+use Rattle.reader.proofs.Parts.{ends-placed}
 use Rattle.reader.proofs.PointNumbers.{no-points}
 use Rattle.reader.proofs.Standing.{stands-at-place}
 use Rattle.promises.specs.Demands.{Demand1, Demand2, Demand3}
@@ -27,6 +29,8 @@ demand1 =
       revolution-numbers = revolutions.refusals-exactly;
       plan-numbers = plans.refusals-exactly;
       reader-numbers = readings.refusals-exactly;
+      ends-placed = ends-placed;
+      parts-tile = parts-tile;
       stretch-numbers = readings.stretch-numbers;
       room-for-all = requests.room-for-all;
       request-unchanged = requests.refusals-change-nothing;

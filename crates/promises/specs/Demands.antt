@@ -7,7 +7,7 @@ use Rattle.sensor.specs.Demands.{RefusalsExactly as RequestNumbers, RefusalsCha
 use Rattle.profile.specs.Demands.{RefusalsExactly as RevolutionNumbers, RefusalsChangeNothing as RevolutionUnchanged}
 use Rattle.profile.specs.Demands.{NearestTimes, SentLength, NeverLonger, PointsAreShots, AllPoints}
 use Rattle.reader.specs.Demands.{AcceptsExactly, PutTogether, ReadsBack, OneReading, NoPoints, StandsAtPlace}
-use Rattle.reader.specs.Demands.{RefusalsExactly as ReaderNumbers, StretchNumbers, RefusalsGiveNothing}
+use Rattle.reader.specs.Demands.{RefusalsExactly as ReaderNumbers, EndsPlaced, PartsTile, StretchNumbers, RefusalsGiveNothing}
 use Rattle.promises.specs.Determined.{Determined}
 use Rattle.promises.specs.Exchange.{SentIsRead}
 use Rattle.promises.specs.Life.{Life}
@@ -22,6 +22,9 @@ pub record Demand1 : Type 1 where
   pub revolution-numbers : RevolutionNumbers
   pub plan-numbers : PlanNumbers
   pub reader-numbers : ReaderNumbers
+  -- with 15 its place, and the parts of a profile that it is said with
+  pub ends-placed : EndsPlaced
+  pub parts-tile : PartsTile
   pub stretch-numbers : StretchNumbers
   -- room for the longest answer is room for every one
   pub room-for-all : RoomForAll

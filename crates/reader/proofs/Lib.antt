@@ -16,3 +16,4 @@ pub mod Parts
 pub mod PointNumbers
 pub mod Standing
 pub mod ByPlace
+pub mod ReaderRows

@@ -5,3 +5,4 @@ pub mod Readings
 pub mod Places
 pub mod Stretches
 pub mod Demands
+pub mod Figures

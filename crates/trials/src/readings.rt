@@ -1,6 +1,8 @@
 // A reading as words.
 use crate::answers::put;
 use crate::answers::put_number;
+use reader::Part;
+use reader::Place;
 use reader::Reading;
 use reader::SectorReading;
 use words::Word;
@@ -48,6 +50,35 @@ fn put_sectors(out: &mut [u16], at: usize, sectors: [SectorReading; 8]) -> usize
     next
 }
 
+// The part by its number, and the sector's place, 0 in another part.
+fn put_part(out: &mut [u16], at: usize, part: Part) -> usize {
+    match part {
+        Part::Head => {
+            let next = put(out, at, 1);
+            put(out, next, 0)
+        }
+        Part::Sector(k) => {
+            let next = put(out, at, 2);
+            put_number(out, next, k)
+        }
+        Part::Senstat => {
+            let next = put(out, at, 3);
+            put(out, next, 0)
+        }
+    }
+}
+
+// Where the words end early: 0 for nowhere, or the part and the index.
+fn put_place(out: &mut [u16], at: usize, place: Place) -> usize {
+    match place {
+        Place::Nowhere => put(out, at, 0),
+        Place::At(index, part) => {
+            let next = put_part(out, at, part);
+            put_number(out, next, index)
+        }
+    }
+}
+
 // The whole reading; how many words it has.
 pub(crate) fn put_reading(out: &mut [u16], reading: Reading) -> usize {
     let mask = reading.mask;
@@ -57,6 +88,7 @@ pub(crate) fn put_reading(out: &mut [u16], reading: Reading) -> usize {
     let sectors = reading.sectors;
     let high = reading.high;
     let low = reading.low;
+    let place = reading.place;
     let mut next = put_word(out, 0, mask);
     next = put_word(out, next, sent);
     next = put_word(out, next, counter);
@@ -64,5 +96,6 @@ pub(crate) fn put_reading(out: &mut [u16], reading: Reading) -> usize {
     next = put_number(out, next, reading.count);
     next = put_sectors(out, next, sectors);
     next = put_word(out, next, high);
-    put_word(out, next, low)
+    next = put_word(out, next, low);
+    put_place(out, next, place)
 }
