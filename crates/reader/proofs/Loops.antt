@@ -104,9 +104,10 @@ module _ (words : List ℕ) (mask count from : ℕ) where
       answered = rw rest-all at (sym e)
 
       -- one turn finds that the words end early
-      pub cut-off : r ≡ Cut → from ≤ length words → (s : Sectors) → s .at ≡ length words + 1 → s .begun ≡ k + 1 → s .list ≡ replicate 8 blankSector
+      pub cut-off : r ≡ Cut → from ≤ length words → (s : Sectors) → s .at ≡ length words + 1 → {begun : ℕ} → s .begun ≡ begun
+          → begun ≡ k + 1 → s .list ≡ replicate 8 blankSector
           → SectorsRead words mask count from s
-      cut-off q inside s a b l =
+      cut-off q inside s a b next l =
           let left : count - k ≡ suc (count - (k + 1)) = omega arith in
           let here : sector mask .parse at (drop at words) ≡ short = cut-short _ (answered ∙ q) in
           let cut : timesParse count (sector mask .parse) from (drop from words) ≡ short = h .found ∙ rw (left, here) in

@@ -6,23 +6,26 @@ use Rattle.reader.proofs.Heads.{empty, another, too-few, bad-mask, bad-
 use Rattle.reader.proofs.head.head_refusal.Statement.{statement}
 use Rattle.reader.proofs.head.head_refusal.Tie as tie
 
+-- whichever test a way out comes from
+ruleset ways = (empty, another, too-few, bad-mask, bad-layers, bad-sectors, no-number, passed, said-no, said-yes)
+
 pub head-refusal-spec : {M : Type 1} → statement M
 head-refusal-spec =
     tie.close
     (tie.spec
-    (λ c. search empty)
+    (λ c. search ways)
     (λ c. search needs)
-    (λ c. search another)
-    (λ c. search too-few)
+    (λ c. search ways)
+    (λ c. search ways)
     (λ c. search needs)
     (λ c. fits-widen tt (c .shared-slice-known3 .given 1))
     (λ c. search needs)
     (λ c κs. search needs)
-    (λ c. search (bad-mask, said-no))
+    (λ c. search ways)
     (λ c κs. search needs)
-    (λ c. search (bad-layers, said-no, said-yes))
+    (λ c. search ways)
     (λ c κs. search needs)
-    (λ c. search (bad-sectors, said-no, said-yes))
+    (λ c. search ways)
     (λ c κs. search needs)
-    (λ c. search (no-number, said-yes))
-    (λ c. search (passed, said-yes)))
+    (λ c. search ways)
+    (λ c. search ways))

@@ -32,7 +32,7 @@ read-sectors-spec =
     (λ c. search needs)
     (λ c. search needs)
     (λ c κs. search needs)
-    (λ c. search cut-off)
+    (λ c. search (cut-off, needs))
     (λ c. search needs)
     (λ c. search needs)
     (λ c. search needs)
