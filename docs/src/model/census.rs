@@ -1,6 +1,8 @@
-// Counts what cases come to: refusals of each call, served requests by service and mode, profiles sent by step.
+// Counts what cases come to: refusals of each call, the parts in which words for the reader end early, served requests by
+// service and mode, profiles sent by step.
 
 use crate::format;
+use crate::reader;
 use crate::services;
 use crate::state::{Job, Mode};
 use crate::trial::{self, Call};
@@ -13,8 +15,8 @@ const REFUSALS: [&[u16]; 7] = [
     &[0, 1, 2, 3, 4, 5, 6],
     &[0, 1, 7, 8, 6],
     &[0, 9, 10, 11],
-    &[0, 12, 13, 14, 15, 16],
-    &[0, 12, 13, 14, 15, 16, 17],
+    &[0, 12, 13, 22, 23, 24, 14, 15, 16],
+    &[0, 12, 13, 22, 23, 24, 14, 15, 16, 17],
     &[0],
     &[0, 1, 8, 6],
 ];
@@ -23,6 +25,7 @@ const REFUSALS: [&[u16]; 7] = [
 struct Counts {
     cases: usize,
     refusals: BTreeMap<(usize, u16), usize>,
+    parts_of_15: BTreeMap<u16, usize>,
     served: BTreeMap<(u16, usize), usize>,
     errors_of_measure: BTreeMap<u16, usize>,
     profiles: BTreeMap<u16, usize>,
@@ -70,7 +73,12 @@ impl Counts {
                 }
             }
             Call::NormalPlan { .. } => self.refusal(3, refusal),
-            Call::Read { .. } => self.refusal(4, refusal),
+            Call::Read { words } => {
+                self.refusal(4, refusal);
+                if let Some(early_end) = reader::read(&words).1.early_end {
+                    *self.parts_of_15.entry(early_end.part.number()).or_default() += 1;
+                }
+            }
             Call::Stretch { .. } => self.refusal(5, refusal),
             Call::FreshState => self.refusal(6, refusal),
             // this call hands back no refusal: the one of the revolution behind it is counted
@@ -89,6 +97,8 @@ impl Counts {
             }
             text.push('\n');
         }
+        let [head, sectors, senstat] = [1, 2, 3].map(|part| self.parts_of_15.get(&part).copied().unwrap_or(0));
+        text += &format!("places of 15: head {head}, sectors {sectors}, SENSTAT {senstat}\n");
         text += "\nserved requests         IDLE  ROTATE MEASURE\n";
         for service in &services::TABLE {
             text += &format!("{:04X} {:15}", service.code, service.name);

@@ -2,7 +2,7 @@
 // the lines. The line's form is the program's (rule 7.11).
 
 use crate::plan::{Plan, Sector};
-use crate::reader::Reading;
+use crate::reader::{EarlyEnd, Part, Reading};
 use crate::state::{Job, Mode, State};
 
 /// A DWORD and a word go high part first; an odd byte at the end is no word.
@@ -165,6 +165,20 @@ fn push_field(words: &mut Vec<u16>, field: Option<u16>) {
     }
 }
 
+/// The place that comes with 15 (rule 5.16): a word of 0 where there is none, else the part's number, which sector it is
+/// (0 where it is none), and the index.
+fn push_early_end(words: &mut Vec<u16>, early_end: Option<EarlyEnd>) {
+    let Some(EarlyEnd { part, index }) = early_end else {
+        words.push(0);
+        return;
+    };
+    let place = match part {
+        Part::Sector(place) => place,
+        Part::Head | Part::Senstat => 0,
+    };
+    words.extend([part.number(), place as u16, index as u16]);
+}
+
 /// The words of a reading in a line. Every field of the profile can be absent; the number of sectors, places and numbers
 /// of words are plain, and 0 in a refused reading.
 pub fn reading_words(reading: &Reading) -> Vec<u16> {
@@ -185,6 +199,7 @@ pub fn reading_words(reading: &Reading) -> Vec<u16> {
     for field in reading.senstat {
         push_field(&mut words, field);
     }
+    push_early_end(&mut words, reading.early_end);
     words
 }
 

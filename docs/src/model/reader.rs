@@ -1,5 +1,5 @@
-// Rules 5.10 to 5.15, the host's side: the reading of a profile with refusals 12 to 16, the
-// stretch of a sector's points and the number beside it, with refusal 17.
+// Rules 5.10 to 5.16, the host's side: the reading of a profile with refusals 12, 13, 22, 23, 24, 14, 15 and 16, the place
+// that comes with 15, the stretch of a sector's points and the number beside it, with refusal 17.
 
 use crate::revolution::has_bit;
 
@@ -17,7 +17,32 @@ pub struct SectorReading {
     pub last_direction: Option<u16>,
 }
 
-/// The default is a refused one (rule 5.14).
+/// A part of a profile (rule 5.16); a sector goes by its place.
+#[derive(Clone, Copy, PartialEq, Eq, Debug)]
+pub enum Part {
+    Head,
+    Sector(usize),
+    Senstat,
+}
+
+impl Part {
+    pub fn number(self) -> u16 {
+        match self {
+            Part::Head => 1,
+            Part::Sector(_) => 2,
+            Part::Senstat => 3,
+        }
+    }
+}
+
+/// Where words end too early: the first word that is missing, and the part that it is of (rule 5.16).
+#[derive(Clone, Copy, PartialEq, Eq, Debug)]
+pub struct EarlyEnd {
+    pub part: Part,
+    pub index: usize,
+}
+
+/// The default is a refused one (rule 5.14), without a place.
 #[derive(Clone, Copy, PartialEq, Eq, Debug, Default)]
 pub struct Reading {
     pub mask: Option<u16>,
@@ -27,40 +52,57 @@ pub struct Reading {
     pub sector_count: usize,
     pub sectors: [SectorReading; 8],
     pub senstat: [Option<u16>; 2],
+    pub early_end: Option<EarlyEnd>,
 }
 
-const WORDS_END_EARLY: u16 = 15;
+/// A number for no; with 15 its place.
+struct Refused {
+    number: u16,
+    early_end: Option<EarlyEnd>,
+}
 
-/// The words given, with the mask that says which fields they have and the place reached.
+/// A refusal that has no place.
+fn refused(number: u16) -> Refused {
+    Refused { number, early_end: None }
+}
+
+/// The words given, with the mask that says which fields they have, the place reached and the part that it is in.
 struct Layout<'a> {
     words: &'a [u16],
     mask: u16,
     place: usize,
+    part: Part,
 }
 
 impl Layout<'_> {
+    /// 15: a word of this part is missing, and the first one that is stands right behind those given (rule 5.16).
+    fn ends_early(&self) -> Refused {
+        let index = self.words.len();
+        Refused { number: 15, early_end: Some(EarlyEnd { part: self.part, index }) }
+    }
+
     /// The next word if the mask has the bit, absent if not.
-    fn field(&mut self, bit: u16) -> Result<Option<u16>, u16> {
+    fn field(&mut self, bit: u16) -> Result<Option<u16>, Refused> {
         if !has_bit(self.mask, bit) {
             return Ok(None);
         }
         if self.place >= self.words.len() {
-            return Err(WORDS_END_EARLY);
+            return Err(self.ends_early());
         }
         let word = self.words[self.place];
         self.place += 1;
         Ok(Some(word))
     }
 
-    fn pass(&mut self, length: usize) -> Result<(), u16> {
+    fn pass(&mut self, length: usize) -> Result<(), Refused> {
         if self.words.len() - self.place < length {
-            return Err(WORDS_END_EARLY);
+            return Err(self.ends_early());
         }
         self.place += length;
         Ok(())
     }
 
-    fn sector(&mut self) -> Result<SectorReading, u16> {
+    fn sector(&mut self) -> Result<SectorReading, Refused> {
         let mut sector = SectorReading {
             number: self.field(3)?,
             step: self.field(4)?,
@@ -87,43 +129,52 @@ impl Layout<'_> {
 pub fn read(words: &[u16]) -> (u16, Reading) {
     match reading_or_refusal(words) {
         Ok(reading) => (0, reading),
-        Err(refusal) => (refusal, Reading::default()),
+        Err(Refused { number, early_end }) => (number, Reading { early_end, ..Reading::default() }),
     }
 }
 
-fn reading_or_refusal(words: &[u16]) -> Result<Reading, u16> {
+/// The refusals stand in the order of rule 6.1.
+fn reading_or_refusal(words: &[u16]) -> Result<Reading, Refused> {
     if words.is_empty() || words[0] != 0x8301 {
-        return Err(12);
+        return Err(refused(12));
     }
     if words.len() < 3 {
-        return Err(13);
+        return Err(refused(13));
     }
     let mask = words[1];
-    let high_byte = words[2] >> 8;
+    let layers = words[2] >> 8;
     let sector_count = usize::from(words[2] & 0x00FF);
-    if mask == 0 || mask & 0xC000 != 0 || high_byte != 1 || !(1..=8).contains(&sector_count) {
-        return Err(13);
+    if mask == 0 || mask & 0xC000 != 0 {
+        return Err(refused(22));
+    }
+    if layers != 1 {
+        return Err(refused(23));
+    }
+    if !(1..=8).contains(&sector_count) {
+        return Err(refused(24));
     }
     if (8..=10).any(|bit| has_bit(mask, bit)) && !has_bit(mask, 5) {
-        return Err(14);
+        return Err(refused(14));
     }
-    // 15 comes of every word that is missing
-    let mut layout = Layout { words, mask, place: 3 };
+    // 15 comes of every word that is missing, in the part that is named before its words are taken
+    let mut layout = Layout { words, mask, place: 3, part: Part::Head };
     let mut reading = Reading { mask: Some(mask), sector_count, ..Reading::default() };
     reading.sent = layout.field(0)?;
     reading.counter = layout.field(1)?;
     reading.layer = layout.field(2)?;
     for place in 0..sector_count {
+        layout.part = Part::Sector(place);
         reading.sectors[place] = layout.sector()?;
     }
+    layout.part = Part::Senstat;
     reading.senstat = [layout.field(13)?, layout.field(13)?];
     if layout.place != words.len() {
-        return Err(16);
+        return Err(refused(16));
     }
     Ok(reading)
 }
 
-/// The number beside the stretch: the reader's own come first (rule 5.13).
+/// The number beside the stretch, which has no place: the reader's own come first (rules 5.13 and 5.16).
 pub fn stretch_refusal(words: &[u16], place: u16) -> u16 {
     let (refusal, reading) = read(words);
     if refusal != 0 {

@@ -10,7 +10,7 @@ use crate::random::Random;
 use crate::random_plans;
 use crate::random_profiles::profile_of_state;
 use crate::random_states;
-use crate::reader::{self, Reading};
+use crate::reader::{self, EarlyEnd, Part, Reading};
 use crate::revolution::{has_bit, revolution, time_of_shot};
 use crate::services::{self, *};
 use crate::state::{Job, Mode, State};
@@ -420,8 +420,12 @@ fn cases_and_lines() {
     format::push_line(&mut line, 13, 17, &[]);
     assert_eq!(line, b"12 5 2 ABCD 0001\n13 17 0\n");
     assert_eq!(format::ListGiven { length: 8195, first: 65534, rise: 1 }.words(), [65534, 65535, 0]);
-    // 4 fields, the number of sectors, 8 × 9 words of sectors, 2 words of SENSTAT
-    assert_eq!(format::reading_words(&Reading::default()), [0; 79]);
+    // 4 fields, the number of sectors, 8 × 9 words of sectors, 2 words of SENSTAT, no place
+    assert_eq!(format::reading_words(&Reading::default()), [0; 80]);
+    for (part, words) in [(Part::Head, [1, 0, 9]), (Part::Sector(7), [2, 7, 9]), (Part::Senstat, [3, 0, 9])] {
+        let reading = Reading { early_end: Some(EarlyEnd { part, index: 9 }), ..Reading::default() };
+        assert_eq!(format::reading_words(&reading)[79..], words);
+    }
 }
 
 #[test]
