@@ -3,6 +3,7 @@
 
 mod case_parts;
 mod census;
+mod cuts;
 mod format;
 mod fresh_cases;
 mod measure_checks;
@@ -39,6 +40,10 @@ const USAGE: &str = "usage: model COMMAND
   stored             the cases that are stored
   pick NUMBER        cases on standard input: the one of this number alone
   census             cases on standard input: how many of each kind, refusal, service and step
+  cuts               cases on standard input: cases of reading, each profile among them cut to every length below its
+                     own. A profile is what kinds 4 and 5 are given and what kinds 2 and 7 send, where the reader
+                     takes it; those that are alike are taken once
+  cuts --count       cases on standard input: how many such profiles and cuts they make
   talk SEED COUNT    an input for the program
   program            that input on standard input: what the program prints";
 
@@ -110,6 +115,8 @@ fn main() {
         }
         ["stored"] => output.write(&stored_cases::input()),
         ["pick", wanted] => pick(number(wanted), &mut output),
+        ["cuts"] => cuts::write_cuts(&whole_input(), &mut |bytes| output.write(bytes)),
+        ["cuts", "--count"] => output.write(cuts::count(&whole_input()).as_bytes()),
         ["census"] => output.write(census::table_of(&whole_input()).as_bytes()),
         ["talk", seed, count] => output.write(&talk::input(number(seed), number(count) as usize)),
         ["program"] => output.write(&program::run(&whole_input())),
