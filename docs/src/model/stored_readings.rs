@@ -1,8 +1,9 @@
-// Stored cases of the reader and of the stretch: rules 5.10 to 5.15, with
-// refusals 12 to 17 alone and in pairs.
+// Stored cases of the reader and of the stretch: rules 5.10 to 5.16, with
+// refusals 12 to 17 and 22 to 24 alone and together, and cuts in every part of a profile.
 
 use crate::case_parts;
 use crate::random_profiles::profile_of_state;
+use crate::revolution::has_bit;
 use crate::state::State;
 use crate::stored_samples::*;
 
@@ -155,9 +156,132 @@ fn field_values(cases: &mut Cases) {
     stretch(cases, 1, &long);
 }
 
-/// Refusals 12 to 17: every choice of faults that can be in the same words, with a place that is below S and one that
-/// is not.
+/// The words of rule 7.13: a head of 4 words, a sector with two points, one without, SENSTAT.
+pub const TWO_SECTORS: [u16; 12] = [0x8301, 0x2129, 0x0102, 7, 0, 2, 0x0500, 0x0501, 1, 0, 0, 3];
+
+/// Rule 7.13, the whole profile and each of its cuts.
+fn bench_figure(cases: &mut Cases) {
+    for length in (0..=TWO_SECTORS.len()).rev() {
+        read_and_stretch(cases, &TWO_SECTORS[..length]);
+    }
+}
+
+/// Words in the order of rules 5.4 and 5.5 for any mask and any third word, most of them values that no other word has.
+/// Bits 14 and 15 have no word, and without bit 5 there are no points (rule 5.10).
+fn laid_out(mask: u16, word_2: u16, points: &[u16]) -> Vec<u16> {
+    fn give(words: &mut Vec<u16>, bits: std::ops::Range<u16>) {
+        for bit in bits {
+            if has_bit(words[1], bit) {
+                words.push(0xA000 + words.len() as u16);
+            }
+        }
+    }
+    let mut words = vec![0x8301, mask, word_2];
+    give(&mut words, 0..3);
+    for sector in 0..usize::from(word_2 & 0x00FF) {
+        let count = points.get(sector).copied().unwrap_or(0);
+        give(&mut words, 3..5);
+        if has_bit(mask, 5) {
+            words.push(count);
+        }
+        give(&mut words, 6..8);
+        for _ in 0..if has_bit(mask, 5) { count } else { 0 } {
+            give(&mut words, 8..11);
+        }
+        give(&mut words, 11..13);
+    }
+    give(&mut words, 13..14);
+    give(&mut words, 13..14);
+    words
+}
+
+/// Refusals 22, 23 and 24 alone, at the edges of what mask, layers and S may be, and the good values beside them. There
+/// are as many words as the mask and S ask for.
+fn head_words(cases: &mut Cases) {
+    let masks = [0, 0x4000, 0x8000, 0xC000, 0xFFFF, 0x3FFF];
+    let thirds = [0x0001, 0x0201, 0xFF01, 0x0101, 0x0008, 0x0208, 0xFF08, 0x0108, 0x0100, 0x0109, 0x01FF];
+    let by_mask = masks.map(|mask| laid_out(mask, 0x0101, &[1]));
+    let by_third = thirds.map(|word_2| laid_out(0x0004, word_2, &[]));
+    for words in by_mask.iter().chain(&by_third) {
+        read(cases, words);
+        for place in [0, 8] {
+            stretch(cases, place, words);
+        }
+    }
+}
+
+/// Readings at every length from the three words of rule 5.4 on to the whole, and the numbers beside stretches.
+fn read_cuts(cases: &mut Cases, words: &[u16]) {
+    for length in 3..=words.len() {
+        read(cases, &words[..length]);
+        stretch(cases, 0, &words[..length]);
+    }
+}
+
+/// The place of rule 5.16 in every part.
+fn cuts(cases: &mut Cases) {
+    // sectors without a word: the head, then SENSTAT, or SENSTAT at once
+    read_cuts(cases, &laid_out(0x2001, 0x0102, &[]));
+    read_cuts(cases, &laid_out(0x2000, 0x0108, &[]));
+    // each choice of the head's words, in front of a sector of one word
+    for choice in 0..8 {
+        read_cuts(cases, &laid_out(choice | 0x0008, 0x0101, &[]));
+    }
+    // eight sectors of one word, and with points in some of them
+    read_cuts(cases, &laid_out(0x2008, 0x0108, &[]));
+    read_cuts(cases, &laid_out(0x0120, 0x0108, &[1, 0, 2, 0, 0, 1, 0, 3]));
+    // one sector, with every word there is
+    read_cuts(cases, &laid_out(0x3FFF, 0x0101, &[1]));
+    // in the middle of points of three words and of two, between sectors, before SENSTAT and in it
+    read_cuts(cases, &laid_out(0x0720, 0x0102, &[2, 1]));
+    read_cuts(cases, &laid_out(0x2620, 0x0103, &[0, 1, 2]));
+    // the words of bits 11 and 12, without points and behind them, and each alone
+    read_cuts(cases, &laid_out(0x3800, 0x0102, &[]));
+    read_cuts(cases, &laid_out(0x1920, 0x0102, &[1, 0]));
+    read_cuts(cases, &laid_out(0x0800, 0x0102, &[]));
+    read_cuts(cases, &laid_out(0x1000, 0x0102, &[]));
+}
+
+/// Rule 5.16 with numbers of points that are too large: they take words of what stands behind, then all, then more.
+fn cuts_by_numbers(cases: &mut Cases) {
+    // the number of sector 1 stands at 7, and six words behind it
+    let mut middle = laid_out(0x2128, 0x0103, &[1, 2, 0]);
+    for count in [3, 4, 5, 6, 7, 65535] {
+        middle[7] = count;
+        read_and_stretch(cases, &middle);
+    }
+    // the number of the last sector stands at 4, and three words behind it
+    let mut last = laid_out(0x2120, 0x0102, &[0, 1]);
+    for count in [2, 3, 4, 65535] {
+        last[4] = count;
+        read_and_stretch(cases, &last);
+    }
+}
+
+/// Rule 6.1 for the reader and the stretch: every choice of faults that can be in the same words, with a place that is
+/// below S and one that is not.
 fn refusals_together(cases: &mut Cases) {
+    for first in [0x8301, 0x0301] {
+        // good; 14; 22; 22 and 14; 22 by no bit
+        for mask in [0x0121, 0x0101, 0x4121, 0x4101, 0] {
+            // good; 23; 24; 23 and 24
+            for word_2 in [0x0102, 0x0002, 0x0109, 0x0209] {
+                let mut words = laid_out(mask, word_2, &[1]);
+                words[0] = first;
+                words.push(0);
+                // 16; neither; 15, but for the mask without a bit, which leaves no word to cut off
+                for length in (3.max(words.len() - 2)..=words.len()).rev() {
+                    read(cases, &words[..length]);
+                    stretch(cases, 0, &words[..length]);
+                    stretch(cases, 9, &words[..length]);
+                }
+            }
+            // 13
+            read(cases, &[first, mask]);
+            stretch(cases, 0, &[first, mask]);
+        }
+    }
+    // word 2 good or with one fault, and numbers of words that do not go by S
     for first in [0x8301, 0x0301] {
         for mask in [0x0120, 0x0100, 0x4120, 0x4100, 0] {
             for word_2 in [0x0102, 0x0109, 0x0002] {
@@ -199,6 +323,10 @@ pub fn cases() -> Cases {
     sectors(&mut cases);
     damage(&mut cases);
     field_values(&mut cases);
+    bench_figure(&mut cases);
+    head_words(&mut cases);
+    cuts(&mut cases);
+    cuts_by_numbers(&mut cases);
     refusals_together(&mut cases);
     cases
 }
