@@ -1,6 +1,8 @@
 // Holds the model to every bench figure of the rules, to the program's dialogue printed there, and to what the rules
-// say of the calls together: lengths, reading back, plans that run alike. Run: rustc --edition 2021 --test main.rs.
+// say of the calls together: lengths, reading back, where cut words end, the reader's refusals in order, plans that run
+// alike. Run: rustc --edition 2021 --test main.rs.
 
+use crate::cuts;
 use crate::format;
 use crate::fresh_cases;
 use crate::measure_checks::measure_error;
@@ -15,9 +17,11 @@ use crate::revolution::{has_bit, revolution, time_of_shot};
 use crate::services::{self, *};
 use crate::state::{Job, Mode, State};
 use crate::stored_cases;
-use crate::stored_samples::plan_of;
+use crate::stored_readings::TWO_SECTORS;
+use crate::stored_samples::{plan_of, plan_of_length};
 use crate::talk;
-use crate::trial;
+use crate::trial::{self, Call};
+use std::collections::BTreeSet;
 
 /// A served request: its answer and the next state.
 fn served(state: &State, words: &[u16]) -> (Vec<u16>, State) {
@@ -221,6 +225,38 @@ end
     assert_eq!(program::run(&[0, 2, 1]), b"nr no n words\n1 2 0\nend short\n");
 }
 
+/// The refusal and reading of words that end early.
+fn cut(part: Part, index: usize) -> (u16, Reading) {
+    (15, Reading { early_end: Some(EarlyEnd { part, index }), ..Reading::default() })
+}
+
+/// Rule 7.13.
+#[test]
+fn bench_cuts() {
+    let (refusal, reading) = reader::read(&TWO_SECTORS);
+    assert_eq!((refusal, reading.sector_count, reading.early_end), (0, 2, None));
+    assert_eq!(put_together(&TWO_SECTORS, &reading), TWO_SECTORS);
+    for (length, refusal) in [(0, 12), (1, 13), (2, 13)] {
+        assert_eq!(reader::read(&TWO_SECTORS[..length]), (refusal, Reading::default()));
+    }
+    for (length, part) in [
+        (3, Part::Head),
+        (4, Part::Sector(0)),
+        (5, Part::Sector(0)),
+        (6, Part::Sector(0)),
+        (7, Part::Sector(0)),
+        (8, Part::Sector(1)),
+        (9, Part::Sector(1)),
+        (10, Part::Senstat),
+        (11, Part::Senstat),
+    ] {
+        assert_eq!(reader::read(&TWO_SECTORS[..length]), cut(part, length));
+        for place in 0..3 {
+            assert_eq!(reader::stretch_refusal(&TWO_SECTORS[..length], place), 15);
+        }
+    }
+}
+
 #[test]
 fn easy_slips() {
     let fresh = State::fresh();
@@ -362,6 +398,272 @@ fn a_reading_gives_the_profile_back() {
         }
     }
     assert!(read > 1000);
+}
+
+/// How many words each part of a profile has (rules 5.5 and 5.8): the head, each sector by its points, SENSTAT.
+fn part_lengths(mask: u16, points: &[usize]) -> Vec<usize> {
+    let bits = |wanted: u16| (mask & wanted).count_ones() as usize;
+    let mut lengths = vec![3 + bits(0x0007)];
+    lengths.extend(points.iter().map(|points| bits(0x18F8) + points * bits(0x0700)));
+    lengths.push(2 * bits(0x2000));
+    lengths
+}
+
+/// The part that a word lies in, by the ends of the parts before it; none behind the last.
+fn part_at(lengths: &[usize], index: usize) -> Option<Part> {
+    let ends = (1..=lengths.len()).map(|count| lengths[..count].iter().sum::<usize>());
+    let part = ends.take_while(|end| *end <= index).count();
+    match part {
+        0 => Some(Part::Head),
+        _ if part < lengths.len() - 1 => Some(Part::Sector(part - 1)),
+        _ if part == lengths.len() - 1 => Some(Part::Senstat),
+        _ => None,
+    }
+}
+
+/// How many points each active sector has, by the way from stop to stop (rules 3.5 and 3.8).
+fn points_of_plan(plan: &Plan, step: u16) -> Vec<usize> {
+    let active = plan::active_sectors(plan);
+    let mut before = active[active.len() - 1].stop;
+    let mut points = Vec::new();
+    for sector in active {
+        let way = if sector.stop > before { sector.stop - before } else { 5760 - before + sector.stop };
+        points.push(if sector.function == 3 { usize::from(way / step) } else { 0 });
+        before = sector.stop;
+    }
+    points
+}
+
+/// Every cut of what this state sends, held to the lengths of its parts; how many of them ended in each part.
+fn hold_cuts(state: &State, ended: &mut [usize; 3]) {
+    let (Job::Counted { mask, .. } | Job::Endless { mask, .. }) = state.job else { return };
+    let lengths = part_lengths(mask, &points_of_plan(&state.working_plan, state.step));
+    let words = profile(state, 0);
+    assert_eq!(words.len(), lengths.iter().sum());
+    assert_eq!(part_at(&lengths, words.len()), None);
+    for length in 3..words.len() {
+        let read = reader::read(&words[..length]);
+        if mask & 0x0700 != 0 && !has_bit(mask, 5) {
+            assert_eq!(read, (14, Reading::default()));
+            continue;
+        }
+        let part = part_at(&lengths, length).unwrap();
+        assert_eq!(read, cut(part, length), "mask {mask:04X}");
+        ended[usize::from(part.number()) - 1] += 1;
+    }
+}
+
+/// Rule 5.16 from the writer's side: plan, step and mask alone say in which part a word lies.
+#[test]
+fn cuts_end_where_the_writer_was() {
+    let mut ended = [0; 3];
+    for mask in 1..0x4000 {
+        hold_cuts(&measuring(64, 10, plan_of(&[(1, 640), (3, 768), (4, 5696)]), mask), &mut ended);
+        // two sectors of points that lie over the 0 direction
+        hold_cuts(&measuring(64, 10, plan_of(&[(3, 0), (1, 5632), (3, 5696)]), mask), &mut ended);
+    }
+    let mut random = Random::new(12);
+    for count in 1..=8 {
+        for _ in 0..200 {
+            let mask = random_states::job_mask(&mut random);
+            hold_cuts(&measuring(64, 10, plan_of_length(count), mask), &mut ended);
+        }
+    }
+    for _ in 0..300 {
+        hold_cuts(&random_states::state_in_ranges(&mut random, Mode::Measure), &mut ended);
+    }
+    assert!(ended.iter().all(|count| *count > 10_000), "{ended:?}");
+}
+
+/// Rules 5.14 and 5.16 for each profile of the stored cases: no cut but one of three words or more has a place, nor has
+/// the whole, nor what is longer than it.
+#[test]
+fn cuts_of_the_stored_profiles() {
+    let profiles = cuts::profiles(&stored_cases::input());
+    assert!(profiles.len() > 400);
+    for words in &profiles {
+        let (refusal, reading) = reader::read(words);
+        assert_eq!((refusal, reading.early_end), (0, None));
+        for length in 0..words.len() {
+            let (refusal, reading) = reader::read(&words[..length]);
+            let Some(EarlyEnd { part, index }) = reading.early_end else {
+                assert_eq!((refusal, reading), (if length == 0 { 12 } else { 13 }, Reading::default()));
+                assert!(length < 3);
+                continue;
+            };
+            assert_eq!((refusal, reading), cut(part, length));
+            assert!(length >= 3 && index == length);
+        }
+        let mut longer = words.clone();
+        for word in [0, 0x8301, 65535] {
+            longer.push(word);
+            assert_eq!(reader::read(&longer), (16, Reading::default()));
+        }
+    }
+}
+
+/// How many points the sectors have by their words of bit 5, up to the first of these words that is not there.
+fn points_of_words(words: &[u16]) -> Vec<usize> {
+    let mask = words[1];
+    let sectors = usize::from(words[2] & 0x00FF);
+    if !has_bit(mask, 5) {
+        return vec![0; sectors];
+    }
+    let mut points = Vec::new();
+    while points.len() < sectors {
+        let sectors_before: usize = part_lengths(mask & 0x1FFF, &points).iter().sum();
+        let place = sectors_before + (mask & 0x0018).count_ones() as usize;
+        let Some(count) = words.get(place) else { break };
+        points.push(usize::from(*count));
+    }
+    points
+}
+
+/// The end of rule 5.16: cut words go on in many ways, and the missing word lies in one part of all those profiles.
+#[test]
+fn the_part_of_a_cut_is_that_of_every_profile_it_begins() {
+    let mut random = Random::new(13);
+    let mut profiles = cuts::profiles(&stored_cases::input());
+    profiles.retain(|words| (4..100).contains(&words.len()));
+    let mut other_ends = 0;
+    for _ in 0..20_000 {
+        let whole = &profiles[random.below(profiles.len())];
+        let length = 3 + random.below(whole.len() - 3);
+        let mut words = whole[..length].to_vec();
+        let (refusal, reading) = reader::read(&words);
+        assert_eq!(refusal, 15);
+        while reader::read(&words).0 == 15 {
+            words.push(random.below(4) as u16);
+        }
+        assert_eq!(reader::read(&words).0, 0);
+        let lengths = part_lengths(words[1], &points_of_words(&words));
+        assert_eq!(lengths.iter().sum::<usize>(), words.len());
+        let part = part_at(&lengths, length).unwrap();
+        assert_eq!(reading.early_end, Some(EarlyEnd { part, index: length }));
+        other_ends += usize::from(words.len() != whole.len());
+    }
+    assert!(other_ends > 2000, "{other_ends}");
+}
+
+/// Rule 6.1.
+const ORDER_OF_READER: [u16; 9] = [12, 13, 22, 23, 24, 14, 15, 16, 17];
+
+/// The lines of section 6 that hold of these words and this place, each by itself. Here bits 14 and 15 have no word, a
+/// sector without bit 5 has no points, and S may be any number; in fewer than 3 words there is none.
+fn due(words: &[u16], place: u16) -> BTreeSet<u16> {
+    let mut due = BTreeSet::new();
+    let mut add = |number: u16, holds: bool| {
+        if holds {
+            due.insert(number);
+        }
+    };
+    add(12, words.first() != Some(&0x8301));
+    add(13, words.len() < 3);
+    add(15, words.len() < 3);
+    if words.len() >= 2 {
+        add(22, !(1..0x4000).contains(&words[1]));
+        add(14, words[1] & 0x0700 != 0 && words[1] & 0x0020 == 0);
+    }
+    if words.len() >= 3 {
+        let [layers, sectors] = words[2].to_be_bytes();
+        add(23, layers != 1);
+        add(24, sectors == 0 || sectors > 8);
+        add(17, place >= u16::from(sectors));
+        let points = points_of_words(words);
+        let length: usize = part_lengths(words[1], &points).iter().sum();
+        let all_there = points.len() == usize::from(sectors);
+        add(15, !all_there || words.len() < length);
+        add(16, all_there && words.len() > length);
+    }
+    due
+}
+
+fn first_due(due: &BTreeSet<u16>) -> u16 {
+    ORDER_OF_READER.into_iter().find(|number| due.contains(number)).unwrap_or(0)
+}
+
+/// Rule 6.1 for the reader and the stretch; and the stored cases have every choice of faults that can meet.
+#[test]
+fn the_first_that_is_due_is_given() {
+    let mut random = Random::new(14);
+    let fresh: Vec<Vec<u16>> = (0..30_000).map(|_| fresh_cases::case(&mut random)).collect();
+    let stored = format::cases_of_input(&stored_cases::input());
+    let mut choices_of_read = BTreeSet::new();
+    let mut choices_of_stretch = BTreeSet::new();
+    for (number, case) in stored.iter().chain(&fresh).enumerate() {
+        match trial::call_of_case(case) {
+            Call::Read { words } => {
+                let mut due = due(&words, 0);
+                due.remove(&17);
+                let (refusal, reading) = reader::read(&words);
+                assert_eq!(refusal, first_due(&due), "{words:04X?}");
+                assert_eq!(reading.early_end.is_some(), refusal == 15);
+                if number < stored.len() {
+                    choices_of_read.insert(due);
+                }
+            }
+            Call::Stretch { place, words } => {
+                let due = due(&words, place);
+                assert_eq!(reader::stretch_refusal(&words, place), first_due(&due), "{place} {words:04X?}");
+                if number < stored.len() {
+                    choices_of_stretch.insert(due);
+                }
+            }
+            _ => {}
+        }
+    }
+    // any of the first six, with 15, with 16 or with neither; beside 13, where 15 holds too, any of 12, 22 and 14
+    for choice in 0..256 {
+        let faults = [12, 22, 23, 24, 14, 17, 15, 16];
+        let chosen: BTreeSet<u16> =
+            (0..8).filter(|bit| has_bit(choice, *bit)).map(|bit| faults[bit as usize]).collect();
+        if chosen.contains(&15) && chosen.contains(&16) {
+            continue;
+        }
+        assert!(choices_of_stretch.contains(&chosen), "{chosen:?}");
+        if !chosen.contains(&17) {
+            assert!(choices_of_read.contains(&chosen), "{chosen:?}");
+        }
+        if chosen.contains(&15) && [23, 24, 17].iter().all(|number| !chosen.contains(number)) {
+            let with_13: BTreeSet<u16> = chosen.into_iter().chain([13]).collect();
+            assert!(choices_of_stretch.contains(&with_13) && choices_of_read.contains(&with_13), "{with_13:?}");
+        }
+    }
+}
+
+/// Refusals 22, 23 and 24 at every value of the mask, the layers and S, with as many words as they ask for.
+#[test]
+fn edges_of_the_head() {
+    for mask in 0..=u16::MAX {
+        // one sector without points, its word of bit 5 included
+        let length: usize = part_lengths(mask, &[0]).iter().sum();
+        let mut words = vec![0; length];
+        words[..3].copy_from_slice(&[0x8301, mask, 0x0101]);
+        let expected = match mask {
+            0 | 0x4000.. => 22,
+            _ if mask & 0x0700 != 0 && mask & 0x0020 == 0 => 14,
+            _ => 0,
+        };
+        assert_eq!(reader::read(&words).0, expected, "{mask:04X}");
+        assert_eq!(reader::stretch_refusal(&words, 0), expected, "{mask:04X}");
+    }
+    for layers in 0..=255 {
+        for sectors in 0..=255 {
+            let words = [0x8301, 0x0004, u16::from_be_bytes([layers, sectors]), 0];
+            let expected = match (layers, sectors) {
+                (1, 1..=8) => 0,
+                (1, _) => 24,
+                _ => 23,
+            };
+            assert_eq!(reader::read(&words).0, expected);
+            assert_eq!(reader::stretch_refusal(&words, 0), expected);
+        }
+    }
+    // 13 is for fewer than 3 words alone, and comes before them
+    for mask in [0, 0x4000, 0x8000, 0xC000, 0xFFFF, 0x0100, 0x0001, 0x3FFF] {
+        assert_eq!(reader::read(&[0x8301, mask]).0, 13);
+        assert_ne!(reader::read(&[0x8301, mask, 0]).0, 13);
+    }
 }
 
 /// A normal plan runs like the plan it came from, and no two neighbours of it have the same function.
