@@ -5,6 +5,7 @@ use crate::random::Random;
 use crate::random_plans;
 use crate::random_requests;
 use crate::random_states;
+use crate::reader;
 use crate::revolution::{self, has_bit};
 use crate::state::{Job, Mode, State};
 
@@ -125,9 +126,47 @@ fn damage_words(random: &mut Random, words: &mut Vec<u16>) {
     }
 }
 
+/// The mask, the layers or S out of its range (refusals 22, 23 and 24), or several of them.
+fn damage_mask_and_third(random: &mut Random, words: &mut [u16]) {
+    if words.len() < 3 {
+        return;
+    }
+    // 22 is the first of four of these choices, 23 of two and 24 of one
+    let choice = random.weighted(&[2, 2, 1, 5, 1, 1, 1]) + 1;
+    if choice & 1 != 0 {
+        words[1] = random.pick(&[0, words[1] | 0x4000, words[1] | 0x8000, words[1] | 0xC000]);
+    }
+    if choice & 2 != 0 {
+        let any = random.word() & 0xFF00;
+        words[2] = words[2] & 0x00FF | random.pick(&[0, 0x0200, 0x8100, 0xFF00, any]);
+    }
+    if choice & 4 != 0 {
+        let any = random.between(9, 255);
+        words[2] = words[2] & 0xFF00 | random.pick(&[0, 9, 255, any]);
+    }
+}
+
+/// Cuts a profile in one of its parts (rule 5.16), more often in the head and in SENSTAT than their few words would have
+/// it. Every profile has words behind the first three.
+fn cut_in_a_part(random: &mut Random, words: &mut Vec<u16>) {
+    if reader::read(words).0 != 0 {
+        return;
+    }
+    let bits = |wanted: u16| (words[1] & wanted).count_ones() as usize;
+    let (head, senstat) = (bits(0x0007), 2 * bits(0x2000));
+    let sectors = words.len() - 3 - head - senstat;
+    let weight = |length: usize, weight: usize| if length > 0 { weight } else { 0 };
+    let length = match random.weighted(&[weight(head, 4), weight(sectors, 1), weight(senstat, 9)]) {
+        0 => 3 + random.below(head),
+        1 => 3 + head + random.below(sectors),
+        _ => words.len() - 1 - random.below(senstat),
+    };
+    words.truncate(length);
+}
+
 /// Changes the number of points of one sector, where the words are a profile that has it.
 fn damage_points_count(random: &mut Random, words: &mut [u16]) {
-    let (refusal, reading) = crate::reader::read(words);
+    let (refusal, reading) = reader::read(words);
     if refusal != 0 || reading.mask.is_some_and(|mask| !has_bit(mask, 5)) {
         return;
     }
@@ -163,10 +202,12 @@ pub fn words_for_reader(random: &mut Random) -> Vec<u16> {
         return (0..length).map(|_| random_requests::edge_word(random)).collect();
     }
     let mut words = if random.percent(50) { written_profile(random) } else { laid_out_profile(random) };
-    match random.weighted(&[45, 40, 10, 5]) {
+    match random.weighted(&[36, 27, 8, 15, 9, 5]) {
         0 => {}
         1 => damage_words(random, &mut words),
         2 => damage_points_count(random, &mut words),
+        3 => cut_in_a_part(random, &mut words),
+        4 => damage_mask_and_third(random, &mut words),
         _ => {
             damage_words(random, &mut words);
             damage_words(random, &mut words);
