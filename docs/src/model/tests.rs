@@ -2,6 +2,7 @@
 // say of the calls together: lengths, reading back, where cut words end, the reader's refusals in order, plans that run
 // alike. Run: rustc --edition 2021 --test main.rs.
 
+use crate::case_parts::{self, TurnGiven};
 use crate::cuts;
 use crate::format;
 use crate::fresh_cases;
@@ -18,7 +19,7 @@ use crate::services::{self, *};
 use crate::state::{Job, Mode, State};
 use crate::stored_cases;
 use crate::stored_readings::TWO_SECTORS;
-use crate::stored_samples::{plan_of, plan_of_length};
+use crate::stored_samples::{buffer, distances, echoes, plan_of, plan_of_length, small_state};
 use crate::talk;
 use crate::trial::{self, Call};
 use std::collections::BTreeSet;
@@ -502,6 +503,44 @@ fn cuts_of_the_stored_profiles() {
     }
 }
 
+/// The command `cuts`: of each profile that the reader takes all cuts, once, from whatever call it comes.
+#[test]
+fn cuts_of_cases() {
+    let turn = TurnGiven { start_time: 0, distances: distances(90), echoes: echoes(90), buffer: buffer(60) };
+    let turned = |mask: u16| case_parts::revolution_case(&format::state_words(&small_state(mask)), &turn);
+    let plan = small_state(1).working_plan;
+    let plain = |mask: u16| case_parts::plain_profile_case(&plan, 64, 10, mask, &turn);
+    let mut input = Vec::new();
+    for case in [
+        case_parts::stretch_case(7, &TWO_SECTORS),
+        case_parts::read_case(&TWO_SECTORS),
+        case_parts::read_case(&TWO_SECTORS[..9]),
+        // points without their number, and a mask that no job has
+        turned(0x0100),
+        plain(0x4005),
+        plain(0x3FFF),
+        turned(0x2000),
+        plain(0x0005),
+        turned(0x2000),
+        case_parts::read_case(&[0x8301, 0x2000, 0x0103, 0, 3]),
+        vec![trial::FRESH_STATE],
+    ] {
+        format::push_case(&mut input, &case);
+    }
+    let all_bits = trial::plain_profile_state(plan, 64, 10, 0x3FFF);
+    let all_words = profile_of_state(&all_bits, 0, &turn.distances.words(), &turn.echoes.words());
+    let profiles = [&TWO_SECTORS[..], &all_words, &[0x8301, 0x2000, 0x0103, 0, 3], &[0x8301, 0x0005, 0x0103, 1, 0]];
+    let mut expected = Vec::new();
+    for words in profiles {
+        expected.extend((0..words.len()).map(|length| case_parts::read_case(&words[..length])));
+    }
+    let mut written = Vec::new();
+    cuts::write_cuts(&input, &mut |bytes| written.extend_from_slice(bytes));
+    assert_eq!(format::cases_of_input(&written), expected);
+    assert_eq!(expected.len(), 12 + 35 + 5 + 5);
+    assert_eq!(cuts::count(&input), "4 profiles, 57 cuts\n");
+}
+
 /// How many points the sectors have by their words of bit 5, up to the first of these words that is not there.
 fn points_of_words(words: &[u16]) -> Vec<usize> {
     let mask = words[1];
@@ -629,6 +668,26 @@ fn the_first_that_is_due_is_given() {
             assert!(choices_of_stretch.contains(&with_13) && choices_of_read.contains(&with_13), "{with_13:?}");
         }
     }
+}
+
+/// Fresh cases come to every number of the reader and cut profiles in every part, all of them often enough.
+#[test]
+fn fresh_readings_have_every_refusal_and_part() {
+    let mut random = Random::new(15);
+    let mut numbers = [0; 25];
+    let mut parts = [0; 4];
+    for _ in 0..30_000 {
+        if let Call::Read { words } = trial::call_of_case(&fresh_cases::case(&mut random)) {
+            let (refusal, reading) = reader::read(&words);
+            numbers[usize::from(refusal)] += 1;
+            parts[reading.early_end.map_or(0, |early_end| usize::from(early_end.part.number()))] += 1;
+        }
+    }
+    for number in ORDER_OF_READER {
+        let least = if number >= 22 { 120 } else { 40 };
+        assert!(number == 17 || numbers[usize::from(number)] >= least, "{number}: {numbers:?}");
+    }
+    assert!(parts.iter().all(|count| *count >= 150), "{parts:?}");
 }
 
 /// Refusals 22, 23 and 24 at every value of the mask, the layers and S, with as many words as they ask for.
