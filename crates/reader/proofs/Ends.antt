@@ -19,7 +19,7 @@ use Rattle.layout.specs.Layout.{headLength}
 use Rattle.reader.specs.declared.SectorReading.{SectorReading}
 use Rattle.reader.specs.declared.Reading.{Reading}
 use Rattle.reader.specs.declared.Part.{Part}
-use Rattle.reader.specs.declared.Part.the-variants.{Sector}
+use Rattle.reader.specs.declared.Part.the-variants.{Head, Sector, Senstat}
 use Rattle.reader.specs.declared.Place.the-variants.{At}
 use Rattle.reader.specs.Sectors.{sector}
 use Rattle.reader.specs.Endings.{headWords, oneMore, wholes, wholeSectors, partMissing}
@@ -45,6 +45,17 @@ module _ {A : Type 0} (p : Parser A) where
   pub counted : (n b : ℕ) (ws : List ℕ) → Counted n (wholes n p b ws) (timesParse n p b ws)
   counted zero b ws = refl
   counted (suc n) b ws = more-counted n (counted n) (p b ws)
+
+-- the ways out of the test by places
+module _ (len head sectors begun : ℕ) where
+  pub ends-in-head : len < head → Head ≡ partBy len head sectors begun
+  ends-in-head h = rw (lt-ltb len head h)
+
+  pub ends-in-sector : head ≤ len → len < sectors → Sector (begun - 1) ≡ partBy len head sectors begun
+  ends-in-sector h k = rw (le-ltb len head h, lt-ltb len sectors k)
+
+  pub ends-in-senstat : head ≤ len → sectors ≤ len → Senstat ≡ partBy len head sectors begun
+  ends-in-senstat h k = rw (le-ltb len head h, le-ltb len sectors k)
 
 -- a place that is n, or one past the end where n is further
 abbrev Reaches : List ℕ → ℕ → ℕ → Type 0
@@ -100,18 +111,12 @@ module _ (mask count : ℕ) (ws : List ℕ) (long : headLength ≤ length ws) (w
         let cut : length ws < w .found .at = omega arith in
         let begun = found-at .cut inside cut in
         let last : w .found .begun - 1 ≡ wholeSectors mask count ws = omega arith in
-        rw (
-          le-ltb (length ws) (headWords mask) inside,
-          lt-ltb (length ws) (w .found .at) cut,
-          lt-ltb (wholeSectors mask count ws) count less,
-          last,
-        )
+        sym (ends-in-sector (length ws) (headWords mask) (w .found .at) (w .found .begun) inside cut)
+        ∙ rw (le-ltb (length ws) (headWords mask) inside, lt-ltb (wholeSectors mask count ws) count less, last)
     in-sectors (got xs b ws′) all kept e =
-        rw (
-          le-ltb (length ws) (headWords mask) inside,
-          le-ltb (length ws) (w .found .at) (omega (arith, length-drop (headWords mask) ws)),
-          le-ltb (wholeSectors mask count ws) count (omega arith),
-        )
+        let behind : w .found .at ≤ length ws = omega (arith, length-drop (headWords mask) ws) in
+        sym (ends-in-senstat (length ws) (headWords mask) (w .found .at) (w .found .begun) inside behind)
+        ∙ rw (le-ltb (length ws) (headWords mask) inside, le-ltb (wholeSectors mask count ws) count (omega arith))
 
   -- the part by places is the first that is not whole
   pub end-part : partBy (length ws) (w .layer .at) (w .found .at) (w .found .begun) ≡ partMissing mask count ws

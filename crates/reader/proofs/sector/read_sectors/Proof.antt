@@ -1,5 +1,6 @@
 -- `read_sectors`: the loop keeps `SoFar`, and each turn and way out is by its law.
 use Prim.Native.Nat.{_-_}
+use native.Mathlib.Omega.{arith}
 use borrow.Author.Needs.{needs}
 use Rattle.reader.proofs.Loops.{SoFar, starts, past-end, all-read, cut-off, turns}
 use Rattle.reader.proofs.sector.read_sectors.Statement.{statement}
@@ -10,6 +11,19 @@ Inv-loop words mask count from list₀ at₀ k₀ list at k = SoFar words mask c
 
 abbrev μ-loop : tie.MeasureT-loop
 μ-loop words mask count from list₀ at₀ k₀ list at k = count - k
+
+-- the words end in a sector, which is the last one begun
+cut-short : tie.Need-returns-2 Inv-loop μ-loop
+cut-short c =
+    let read = c .before .before .before in
+    let turn = read .before .before .before in
+    cut-off _ _ _ _ _ _ _ (turn .loop .inv) (read .before .before .loop-test .taken) _ (read .read-sector .ensures) (search needs)
+    (turn .before .before .if1 .left)
+    _
+    (c .no-sectors2 .ensures .0)
+    (c .no-sectors2 .ensures .1)
+    (omega arith)
+    (c .no-sectors2 .ensures .2)
 
 pub read-sectors-spec : {M : Type 1} → statement M
 read-sectors-spec =
@@ -32,7 +46,7 @@ read-sectors-spec =
     (λ c. search needs)
     (λ c. search needs)
     (λ c κs. search needs)
-    (λ c. search (cut-off, needs))
+    cut-short
     (λ c. search needs)
     (λ c. search needs)
     (λ c. search needs)
