@@ -15,7 +15,7 @@ use Rattle.reader.specs.declared.SectorReading.{SectorReading}
 use Rattle.reader.specs.declared.Reading.{Reading}
 use Rattle.reader.specs.declared.Place.the-variants.{Nowhere}
 use Rattle.reader.specs.Sectors.{sector}
-use Rattle.reader.specs.Readings.{maskIn, countIn, headRefusal, Body, sectorsIn, body, refusedReading, acceptedReading, endOf, ended, bodyOf, readOf}
+use Rattle.reader.specs.Readings.{maskIn, countIn, headRefusal, Body, sectorsIn, body, refusedReading, acceptedReading, withLeft, endOf, ended, bodyOf, readOf}
 use Rattle.reader.proofs.Heads.{GoodHead, good-head}
 use Rattle.reader.proofs.Bodies.{body-lawful, sectors-ok}
 use Rattle.reader.proofs.Readouts.{refused-head, read-whole}
@@ -30,7 +30,7 @@ pub record Parsed (ws rest : List ℕ) : Type 0 where
   pub value : Body SectorReading
   pub place : ℕ
   pub parsed : foundIn ws ≡ got value place rest
-  pub reading : readOf ws ≡ ended (maskIn ws) (countIn ws) (endOf ws) (got value place rest)
+  pub reading : readOf ws ≡ withLeft (maskIn ws) (countIn ws) value rest
 
 -- none is left
 abbrev pub Accepted : List ℕ → Type 0

@@ -20,7 +20,8 @@ use Rattle.reader.specs.declared.Part.the-variants.{Head}
 use Rattle.reader.specs.Sectors.{sector}
 use Rattle.reader.specs.Endings.{headWords, wholeSectors, placeNumbers, partMissing}
 use Rattle.reader.specs.Readings.{maskIn, countIn, endOf, readOf}
-use Rattle.reader.specs.Demands.{wordsOfPart, Belongs, EndsIn, EndEarly, EndsPlaced}
+use Rattle.reader.specs.Parts.{wordsOfPart, Belongs}
+use Rattle.reader.specs.Demands.{EndsIn, EndEarly, EndsPlaced}
 use Rattle.reader.proofs.Heads.{head-other}
 use Rattle.reader.proofs.SectorPlaces.{sector-lawful}
 use Rattle.reader.proofs.Bodies.{sectors-ok}

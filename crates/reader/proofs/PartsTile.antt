@@ -12,7 +12,8 @@ use Rattle.layout.specs.Fields.{SectorFields, Fields}
 use Rattle.layout.specs.Layout.{layoutSector, status, layout}
 use Rattle.reader.specs.declared.Part.{Part}
 use Rattle.reader.specs.declared.Part.the-variants.{Head, Sector, Senstat}
-use Rattle.reader.specs.Demands.{inFront, wordsOfPart, Belongs, OnePart, PartsTile}
+use Rattle.reader.specs.Parts.{inFront, wordsOfPart, Belongs}
+use Rattle.reader.specs.Demands.{PartsTile}
 
 -- of several laid out one after another, how many words the first k have, and the one behind them
 module _ {F : Type 0} (put : F → List ℕ) where

@@ -15,11 +15,8 @@ use Rattle.layout.specs.Fields.{SectorFields, Fields}
 use Rattle.layout.specs.Layout.{layout, Acceptable, headLength, oneLayer}
 use Rattle.reader.specs.declared.SectorReading.{SectorReading}
 use Rattle.reader.specs.declared.Reading.{Reading}
-use Rattle.reader.specs.declared.Place.{Place}
-use Rattle.reader.specs.declared.Place.the-variants.{At}
 use Rattle.reader.specs.Sectors.{sector, blankSector}
-use Rattle.reader.specs.Endings.{partMissing}
-use Rattle.reader.specs.Readings.{maskIn, countIn, layersOk, sectorsOk, headRefusal, Body, sectorsIn, body, acceptedReading, ended, readOf}
+use Rattle.reader.specs.Readings.{maskIn, countIn, layersOk, sectorsOk, headRefusal, Body, sectorsIn, body, acceptedReading, withLeft, readOf}
 use Rattle.reader.specs.Stretches.{fieldsIn}
 use Rattle.reader.specs.Demands.{AcceptsExactly, PutTogether, ReadsBack, OneReading}
 use Rattle.reader.proofs.Heads.{passed}
@@ -81,10 +78,7 @@ module _ (f : Fields) (w : Acceptable f) (more : List ℕ) where
   read-back =
       body-lawful m n .complete (layout f ++ more) headLength (bodyFields f) more (body-ok f (w .fits)) (ap (λ (ws : List ℕ). ws ++ more) (rest-put m n f))
 
-  abbrev end : Place
-  end = At (length (layout f ++ more)) (partMissing m n (layout f ++ more))
-
-  pub reading : readOf (layout f ++ more) ≡ ended m n end (got (read-back .value) (read-back .place) more)
+  pub reading : readOf (layout f ++ more) ≡ withLeft m n (read-back .value) more
   reading = rw counts at (by-body (layout f ++ more) head-passes {g = got (read-back .value) (read-back .place) more} (rw counts (read-back .reads)))
 
   same-fields : fieldsIn (layout f ++ more) (acceptedReading m n (read-back .value)) ≡ f

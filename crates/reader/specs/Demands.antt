@@ -4,20 +4,20 @@ use mathlib.Core.Path.{_≡_}
 use mathlib.Core.Logic.{_↔_, _⊎_}
 use mathlib.Core.Bool.{false, not, _&&_, _||_}
 use mathlib.Core.List.{List, [], _∷_, _++_}
-use Prim.Native.Nat.{ℕ, _+_, _/_, _%_, _≤_, _<_}
+use Prim.Native.Nat.{ℕ, _/_, _%_, _≤_, _<_}
 use lib.Dec.{T, eqb, ltb}
-use lib.ListN.{length, getD, take, drop}
+use lib.ListN.{length, getD}
 use Rattle.words.specs.Bits.{bit}
 use Rattle.words.specs.Lists.{some, Each}
 use Rattle.words.specs.Numbers.{No, no, firstOf}
-use Rattle.words.specs.Words.{numberOf, laidAll}
+use Rattle.words.specs.Words.{numberOf}
 use Rattle.layout.specs.Bits as bits
 use Rattle.layout.specs.Masks.{pointWidth}
 use Rattle.layout.specs.Fields.{Fields}
-use Rattle.layout.specs.Layout.{head, layoutSector, front, status, layout, Acceptable}
+use Rattle.layout.specs.Layout.{layout, Acceptable}
 use Rattle.reader.specs.declared.Part.{Part}
-use Rattle.reader.specs.declared.Part.the-variants.{Head, Sector, Senstat}
 use Rattle.reader.specs.declared.Place.the-variants.{At}
+use Rattle.reader.specs.Parts.{Belongs}
 use Rattle.reader.specs.Endings.{placeNumbers}
 use Rattle.reader.specs.Readings.{maskIn, refusedReading, readOf}
 use Rattle.reader.specs.Sectors.{blankSector}
@@ -70,22 +70,6 @@ pub record Numbered (ws : List ℕ) : Type 0 where
 
 abbrev pub RefusalsExactly : Type 0
 RefusalsExactly = (ws : List ℕ) → Numbered ws
-
--- the words of a profile in front of a part, and those of the part (rule 5.5)
-abbrev pub inFront : Fields → Part → List ℕ
-inFront f Head = []
-inFront f (Sector k) = head (f .mask) (length (f .sectors)) ++ front f ++ laidAll layoutSector (take k (f .sectors))
-inFront f Senstat = head (f .mask) (length (f .sectors)) ++ front f ++ laidAll layoutSector (f .sectors)
-
-abbrev pub wordsOfPart : Fields → Part → List ℕ
-wordsOfPart f Head = head (f .mask) (length (f .sectors)) ++ front f
-wordsOfPart f (Sector k) = laidAll layoutSector (take 1 (drop k (f .sectors)))
-wordsOfPart f Senstat = status f
-
--- the word at an index is one of the part's (rule 5.16)
-pub record Belongs (f : Fields) (index : ℕ) (p : Part) : Type 0 where
-  pub from : length (inFront f p) ≤ index
-  pub below : index < length (inFront f p) + length (wordsOfPart f p)
 
 -- every word of a profile belongs to one part, and to no other (rule 5.16)
 pub record OnePart (f : Fields) (index : ℕ) : Type 0 where

@@ -4,5 +4,6 @@ pub mod Endings
 pub mod Readings
 pub mod Places
 pub mod Stretches
+pub mod Parts
 pub mod Demands
 pub mod Figures

@@ -112,11 +112,15 @@ acceptedReading mask count a =
 abbrev pub endOf : List ℕ → Place
 endOf ws = At (length ws) (partMissing (maskIn ws) (countIn ws) ws)
 
--- 15 where the words end early, 16 where words are left over (rule 6.1)
+-- by the words that are left: 16 where there are any (rule 6.1)
+abbrev pub withLeft : ℕ → ℕ → Body SectorReading → List ℕ → Reading
+withLeft mask count a [] = acceptedReading mask count a
+withLeft mask count a (w ∷ ws) = refusedReading 16 Nowhere
+
+-- 15 where the words end early (rule 6.1)
 abbrev pub ended : ℕ → ℕ → Place → Got (Body SectorReading) → Reading
 ended mask count end short = refusedReading 15 end
-ended mask count end (got a at []) = acceptedReading mask count a
-ended mask count end (got a at (w ∷ ws)) = refusedReading 16 Nowhere
+ended mask count end (got a at ws) = withLeft mask count a ws
 
 unfoldable pub bodyOf : List ℕ → Reading
 bodyOf ws = ended (maskIn ws) (countIn ws) (endOf ws) (body (maskIn ws) (countIn ws) .parse headLength (drop headLength ws))
