@@ -1,5 +1,5 @@
 -- The numbers 12, 13, 22, 23, 24 and 14 as they are tabled, and as the reader's tests give them.
-use Prim.Native.Nat.{ℕ, suc, _+_, _/_}
+use Prim.Native.Nat.{ℕ, suc, _+_}
 use mathlib.Core.Path.{_≡_, refl}
 use mathlib.Core.Bool.{Bool, true, false, not, _&&_, _||_}
 use mathlib.Core.List.{List, [], _∷_}
@@ -9,10 +9,10 @@ use lib.ListN.{length, getD}
 use borrow.Author.Tests.{ne-eqb, leb-true, leb-false, le-ltb, lt-ltb}
 use Rattle.words.specs.Choice.{if_then_else_}
 use Rattle.words.specs.Bits.{bit}
-use Rattle.words.specs.Numbers.{no, firstOf}
-use Rattle.layout.specs.Masks.{maskOk, uncounted}
+use Rattle.words.specs.Numbers.{firstOf}
+use Rattle.layout.specs.Masks.{maskOk}
 use Rattle.layout.specs.Layout.{profileCode, headLength}
-use Rattle.reader.specs.Readings.{maskIn, infoIn, countIn, begins, headRefusal}
+use Rattle.reader.specs.Readings.{maskIn, countIn, begins, headRefusal}
 use Rattle.reader.specs.Demands.{headNumbers}
 
 -- at least is not less, and less is not at least

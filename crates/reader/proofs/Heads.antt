@@ -1,6 +1,6 @@
 -- The first three words: what each way out of their tests gives, and what holds where they pass.
 use Prim.Native.Nat.{ℕ, suc, _+_, _/_, _%_, _≤_, _<_}
-use mathlib.Core.Path.{_≡_, refl, sym, _∙_}
+use mathlib.Core.Path.{_≡_, refl, sym, _∙_, subst}
 use mathlib.Core.List.{List, [], _∷_, _++_}
 use mathlib.Core.Bool.{Bool, true, false, not, _&&_}
 use native.Mathlib.Omega.{arith}
@@ -134,19 +134,23 @@ pub head-behind : (ws : List ℕ) → headRefusal ws ≡ 0 → headLength ≤ le
 head-behind ws e = omega (arith, head-long ws e)
 
 -- the head gives no number of the body's
-pub head-other : (ws : List ℕ) → (headRefusal ws ≡ 15 → ⊥) × (headRefusal ws ≡ 16 → ⊥)
+abbrev pub notBody : ℕ → Bool
+notBody n = not (eqb n 15) && not (eqb n 16)
+
+pub head-other : (ws : List ℕ) {n : ℕ} → headRefusal ws ≡ n → T (notBody n)
 unfolding headRefusal
-head-other ws =
-    other (begins ws) (leb headLength (length ws)) (maskOk (maskIn ws)) (layersOk (infoIn ws)) (sectorsOk (infoIn ws)) (uncounted (maskIn ws))
+head-other ws e =
+    subst (λ (n : ℕ). T (notBody n)) e
+    (other (begins ws) (leb headLength (length ws)) (maskOk (maskIn ws)) (layersOk (infoIn ws)) (sectorsOk (infoIn ws)) (uncounted (maskIn ws)))
   where
-    other : (a l m y s c : Bool) → (firsts a l m y s c ≡ 15 → ⊥) × (firsts a l m y s c ≡ 16 → ⊥)
-    other false l m y s c = (λ e. absurd (omega arith), λ e. absurd (omega arith))
-    other true false m y s c = (λ e. absurd (omega arith), λ e. absurd (omega arith))
-    other true true false y s c = (λ e. absurd (omega arith), λ e. absurd (omega arith))
-    other true true true false s c = (λ e. absurd (omega arith), λ e. absurd (omega arith))
-    other true true true true false c = (λ e. absurd (omega arith), λ e. absurd (omega arith))
-    other true true true true true true = (λ e. absurd (omega arith), λ e. absurd (omega arith))
-    other true true true true true false = (λ e. absurd (omega arith), λ e. absurd (omega arith))
+    other : (a l m y s c : Bool) → T (notBody (firsts a l m y s c))
+    other false l m y s c = tt
+    other true false m y s c = tt
+    other true true false y s c = tt
+    other true true true false s c = tt
+    other true true true true false c = tt
+    other true true true true true true = tt
+    other true true true true true false = tt
 
 -- the first three words, and those behind them, which change nothing for the head
 pub three : (ws : List ℕ) → headLength ≤ length ws → ws ≡ getD ws 0 0 ∷ maskIn ws ∷ infoIn ws ∷ drop headLength ws

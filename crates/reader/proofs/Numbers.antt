@@ -17,7 +17,7 @@ use Rattle.reader.specs.declared.Reading.{Reading}
 use Rattle.reader.specs.Readings.{maskIn, countIn, headRefusal, body, refusedReading, readOf}
 use Rattle.reader.specs.Stretches.{stretchRefusalOf, stretchOf}
 use Rattle.reader.specs.Demands.{headNumbers, EndEarly, LeftOver, RefusalsExactly, RefusalsGiveNothing, StretchNumbers}
-use Rattle.reader.proofs.Heads.{GoodHead, head-other, head-front}
+use Rattle.reader.proofs.Heads.{GoodHead, notBody, head-other, head-front}
 use Rattle.reader.proofs.HeadNumbers.{head-table}
 use Rattle.reader.proofs.Bodies.{body-extends}
 use Rattle.reader.proofs.Accepted.{Parsed, Outcome, refused, cut, over, whole, by-head, outcome, has-sector}
@@ -42,7 +42,7 @@ not-within f g v w more t e =
 
 -- neither 0 nor one of the body's
 abbrev ofHead : ℕ → Bool
-ofHead n = not (eqb n 0) && not (eqb n 15) && not (eqb n 16)
+ofHead n = not (eqb n 0) && notBody n
 
 module _ (ws : List ℕ) where
   -- where the body's words end early, more of them make a profile
@@ -66,7 +66,7 @@ module _ (ws : List ℕ) where
 
   -- 15 says that the words end early
   is-early : {r : Reading} → Outcome ws r → r .refusal ≡ 15 → EndEarly ws
-  is-early (refused h) e = absurd (head-other ws .0 e)
+  is-early (refused h) e = absurd (head-other ws e)
   is-early (cut h p) e =
       early-laid h (subst (ExtendedOf (body (maskIn ws) (countIn ws)) (drop headLength ws)) p (body-extends (maskIn ws) (countIn ws) .extend ws headLength))
   is-early (over s) e = absurd (omega arith)
@@ -92,7 +92,7 @@ module _ (ws : List ℕ) where
 
   -- 16 says that words are left over
   is-over : {r : Reading} → Outcome ws r → r .refusal ≡ 16 → LeftOver ws
-  is-over (refused h) e = absurd (head-other ws .1 e)
+  is-over (refused h) e = absurd (head-other ws e)
   is-over (cut h p) e = absurd (omega arith)
   is-over (over {w} {rest} s) e = (fields s, w ∷ rest, fields-fit s, tt, laid-out s)
   is-over (whole s) e = absurd (omega arith)

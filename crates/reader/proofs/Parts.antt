@@ -122,7 +122,7 @@ module _ (ws : List ℕ) where
 
   -- the place that a reading has
   placed : {r : Reading} → Outcome ws r → r .refusal ≡ 15 → r .place ≡ endOf ws
-  placed (refused h) e = absurd (head-other ws .0 e)
+  placed (refused h) e = absurd (head-other ws e)
   placed (cut h p) e = refl
   placed (over s) e = absurd (omega arith)
   placed (whole s) e = absurd (omega arith)

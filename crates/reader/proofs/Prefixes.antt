@@ -1,5 +1,5 @@
 -- Words of which only the front is given: what is there whole is read as in the whole, and what is not is longer than they are.
-use Prim.Native.Nat.{ℕ, zero, suc, _+_, _≤_, _<_}
+use Prim.Native.Nat.{ℕ, suc, _+_, _≤_, _<_}
 use mathlib.Core.Path.{_≡_, refl, sym, _∙_, ap, subst}
 use mathlib.Core.Logic.{_⊎_, inl, inr}
 use mathlib.Core.List.{List, [], _∷_, _++_, append-assoc, append-nil}
@@ -11,7 +11,7 @@ use borrow.Author.Tests.{ltb-true, ltb-false}
 use Rattle.words.specs.Words.{laidAll}
 use Rattle.words.specs.Parse.{Got, short, got}
 use Rattle.words.specs.Format.{Format, AllOk}
-use Rattle.words.proofs.Lawful.{Sound, SoundOf, Complete, Lawful}
+use Rattle.words.proofs.Lawful.{SoundOf, Complete, Lawful}
 use Rattle.reader.specs.Endings.{oneMore, wholes}
 use Rattle.reader.specs.Places.{valueOf}
 

@@ -1,9 +1,9 @@
 -- Rules, section 7: the P rows of the reader. Proved in proofs/ReaderRows.antt.
-use mathlib.Core.List.{List, [], _∷_, _++_}
+use mathlib.Core.List.{List, [], _∷_}
 use Prim.Native.Nat.{ℕ}
 use lib.ListN.{take}
 use Rattle.words.specs.Rows.{Row, Shown}
-use Rattle.reader.specs.Endings.{PlaceNumbers, placeNumbers}
+use Rattle.reader.specs.Endings.{placeNumbers}
 use Rattle.reader.specs.Readings.{readOf}
 
 -- a profile of two sectors, the first with two points (rule 7.13)

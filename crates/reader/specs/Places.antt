@@ -8,7 +8,6 @@ use lib.ListN.{length, drop}
 use Rattle.words.specs.Choice.{if_then_else_}
 use Rattle.words.specs.Parse.{Got, short, got}
 use Rattle.words.specs.Format.{Format, times}
-use Rattle.reader.specs.declared.SectorReading.{SectorReading}
 use Rattle.reader.specs.declared.Sectors.{Sectors}
 use Rattle.reader.specs.declared.Part.{Part}
 use Rattle.reader.specs.declared.Part.the-variants.{Head, Sector, Senstat}
