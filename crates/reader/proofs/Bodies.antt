@@ -22,6 +22,7 @@ use Rattle.layout.specs.Fields.{SectorFields}
 use Rattle.layout.specs.Layout.{headLength}
 use Rattle.reader.specs.declared.SectorReading.{SectorReading}
 use Rattle.reader.specs.declared.Sectors.{Sectors}
+use Rattle.reader.specs.declared.Reading.{Reading}
 use Rattle.reader.specs.declared.Place.{Place}
 use Rattle.reader.specs.declared.Place.the-variants.{Nowhere}
 use Rattle.reader.specs.Sectors.{sector}
@@ -121,11 +122,12 @@ module _ (mask count : ℕ) (ws : List ℕ) (long : headLength ≤ length ws) wh
     pub end-short : length ws < w .low .at → refusedReading 15 end ≡ ended mask count end (body mask count .parse headLength (drop headLength ws))
     end-short h = sym (ap (ended mask count end) (found ∙ past-out ws 0 walked (w .low .at) h))
 
-    pub end-over : w .low .at < length ws → refusedReading 16 Nowhere ≡ ended mask count end (body mask count .parse headLength (drop headLength ws))
-    end-over h =
+    pub end-over : {r : Reading} {p : Place} → r ≡ refusedReading 16 p → p ≡ Nowhere → w .low .at < length ws
+        → r ≡ ended mask count end (body mask count .parse headLength (drop headLength ws))
+    end-over is none h =
         let whole : refusedReading 16 Nowhere ≡ ended mask count end (got walked (0 + w .low .at) (drop (w .low .at) ws)) =
         rw (drop-cons ws (w .low .at) 0 h) in
-        whole ∙ sym (ap (ended mask count end) (found ∙ in-out ws 0 walked (w .low .at) (omega arith)))
+        is ∙ ap (refusedReading 16) none ∙ whole ∙ sym (ap (ended mask count end) (found ∙ in-out ws 0 walked (w .low .at) (omega arith)))
 
     pub end-exact : w .low .at ≤ length ws → length ws ≤ w .low .at
         → record {

@@ -1,5 +1,5 @@
 -- `read_body`: the words taken are a walk of the body, and each way out is by its law.
-use mathlib.Core.Path.{_∙_}
+use mathlib.Core.Path.{refl}
 use native.Mathlib.Omega.{arith}
 use mir.Facts.{fits-widen}
 use denote.Ref.{now}
@@ -46,7 +46,7 @@ over : tie.Need-returns-2
 unfolding bodyOf
 over c =
     let t = c .before .before .before .before .before in
-    c .refused2 .ensures ∙ end-over _ _ _ (head-long _ (start t .pre)) (walk t) _ (c .before .if2 .taken)
+    end-over _ _ _ (head-long _ (start t .pre)) (walk t) _ (c .refused2 .ensures) refl (c .before .if2 .taken)
 
 exact : tie.Need-returns-3
 unfolding bodyOf
