@@ -86,7 +86,7 @@ pub record EndsIn (ws : List ℕ) (p : Part) : Type 0 where
   pub in-one : (f : Fields) × (more : List ℕ) × Acceptable f × (ws ++ more ≡ layout f) × Belongs f (length ws) p
   pub in-every : (f : Fields) (more : List ℕ) → Acceptable f → ws ++ more ≡ layout f → Belongs f (length ws) p
 
--- with 15 there is a place, at the index that is the number of the words, and its part is right; with no other number there is one (rule 5.16)
+-- with 15 there is a place, at the index that is the number of the words, and its part is right; with every other number there is none (rule 5.16)
 pub record Ending (ws : List ℕ) : Type 0 where
   pub there : readOf ws .refusal ≡ 15 → (p : Part) × (readOf ws .place ≡ At (length ws) p) × EndsIn ws p
   pub nowhere : (readOf ws .refusal ≡ 15 → ⊥) → placeNumbers (readOf ws .place) .part ≡ 0
