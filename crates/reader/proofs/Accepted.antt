@@ -15,7 +15,8 @@ use Rattle.reader.specs.declared.SectorReading.{SectorReading}
 use Rattle.reader.specs.declared.Reading.{Reading}
 use Rattle.reader.specs.declared.Place.the-variants.{Nowhere}
 use Rattle.reader.specs.Sectors.{sector}
-use Rattle.reader.specs.Readings.{maskIn, countIn, headRefusal, Body, sectorsIn, body, refusedReading, acceptedReading, withLeft, endOf, ended, bodyOf, readOf}
+use Rattle.reader.specs.Readings.{maskIn, countIn, headRefusal, Body, sectorsIn, body}
+use Rattle.reader.specs.Readings.{refusedReading, acceptedReading, withLeft, endOf, ended, bodyOf, readOf}
 use Rattle.reader.proofs.Heads.{GoodHead, good-head}
 use Rattle.reader.proofs.Bodies.{body-lawful, sectors-ok}
 use Rattle.reader.proofs.Readouts.{refused-head, read-whole}

@@ -16,6 +16,7 @@ use Rattle.layout.specs.Fields.{Fields}
 use Rattle.layout.specs.Layout.{layoutSector, status, layout, Acceptable, headLength, oneLayer}
 use Rattle.layout.proofs.LayoutLengths.{word-length}
 use Rattle.reader.specs.declared.Reading.{Reading}
+use Rattle.reader.specs.declared.Part.{Part}
 use Rattle.reader.specs.declared.Part.the-variants.{Head}
 use Rattle.reader.specs.Sectors.{sector}
 use Rattle.reader.specs.Endings.{headWords, wholeSectors, placeNumbers, partMissing}
@@ -90,7 +91,9 @@ module _ (f : Fields) (w : Acceptable f) (ws more : List ℕ) (is : ws ++ more �
       go false e =
           let h = ltb-false (length ws) (headWords m) e in
           by-sectors h below
-          (stops (sector m) (sector-lawful m) (f .sectors) ws (headWords m) more (status f) (sectors-ok m n (bodyFields f) (body-ok f (w .fits))) (behind-head h))
+          (stops (sector m) (sector-lawful m) (f .sectors) ws (headWords m) more (status f)
+          (sectors-ok m n (bodyFields f) (body-ok f (w .fits)))
+          (behind-head h))
 
   -- the mask and the number of sectors are those of the fields
   same-mask : headLength ≤ length ws → maskIn ws ≡ m
@@ -106,17 +109,21 @@ module _ (f : Fields) (w : Acceptable f) (ws more : List ℕ) (is : ws ++ more �
   named h below = rw (same-mask h, same-count h) (belongs below)
 
 -- words that are refused by 15 are not a whole profile
-shorter : (ws : List ℕ) (f : Fields) (more : List ℕ) → readOf ws .refusal ≡ 15 → Acceptable f → ws ++ more ≡ layout f → length ws < length (layout f)
+shorter : (ws : List ℕ) (f : Fields) (more : List ℕ) → readOf ws .refusal ≡ 15 → Acceptable f → ws ++ more ≡ layout f
+    → length ws < length (layout f)
 shorter ws f [] r w is =
     let taken : readOf ws .refusal ≡ 0 = subst (λ (v : List ℕ). readOf v .refusal ≡ 0) (sym is ∙ append-nil ws) (reads-back f w .0) in
     absurd (omega arith)
 shorter ws f (x ∷ xs) r w is = omega (arith, length-append ws (x ∷ xs), ap length is)
 
 module _ (ws : List ℕ) where
-  ends-in : readOf ws .refusal ≡ 15 → EndEarly ws → EndsIn ws (partMissing (maskIn ws) (countIn ws) ws)
+  abbrev part : Part
+  part = partMissing (maskIn ws) (countIn ws) ws
+
+  ends-in : readOf ws .refusal ≡ 15 → EndEarly ws → EndsIn ws part
   ends-in r t =
       let e = t .1 in
-      let every : (f : Fields) (more : List ℕ) → Acceptable f → ws ++ more ≡ layout f → Belongs f (length ws) (partMissing (maskIn ws) (countIn ws) ws) =
+      let every : (f : Fields) (more : List ℕ) → Acceptable f → ws ++ more ≡ layout f → Belongs f (length ws) part =
       λ f more w is. named f w ws more is (t .0) (shorter ws f more r w is) in
       record { in-one = (e .0, e .1, e .2, e .4, every (e .0) (e .1) (e .2) (e .4)); in-every = every }
 
@@ -136,6 +143,6 @@ module _ (ws : List ℕ) where
 pub ends-placed : EndsPlaced
 ends-placed ws =
     record {
-      there = λ r. (partMissing (maskIn ws) (countIn ws) ws, placed ws (outcome ws) r, ends-in ws r (refusals-exactly ws .early .0 r));
+      there = λ r. (part ws, placed ws (outcome ws) r, ends-in ws r (refusals-exactly ws .early .0 r));
       nowhere = unplaced ws (outcome ws);
     }

@@ -70,14 +70,16 @@ module _ {A F : Type 0} (c : Format A F) (lawful : Lawful c) where
 
   -- the first of them, and then the others by what is said of them
   one-stops : (f : F) (fs : List F) (W : List ℕ) (b : ℕ) (us vs : List ℕ) → c .ok f → drop b W ++ us ≡ c .put f ++ (laidAll (c .put) fs ++ vs)
-      → ((b′ : ℕ) → drop b′ W ++ us ≡ laidAll (c .put) fs ++ vs → Stops fs (wholes (length fs) (c .parse) b′ (drop b′ W)) (length (drop b′ W)))
+      → ((b′ : ℕ) → drop b′ W ++ us ≡ laidAll (c .put) fs ++ vs
+      → Stops fs (wholes (length fs) (c .parse) b′ (drop b′ W)) (length (drop b′ W)))
       → (g : Got A) → c .parse b (drop b W) ≡ g → SoundOf c W b g
       → Stops (f ∷ fs) (oneMore g (wholes (length fs) (c .parse))) (length (drop b W))
   one-stops f fs W b us vs ok is others short e s =
       let within = ends-within W b f us _ ok e is in
       inr (omega arith, omega arith, rw (append-nil (c .put f)) (omega arith))
   one-stops f fs W b us vs ok is others (got a b′ ws′) e s =
-      let both = one-way (c .strip W a) f (ws′ ++ us) _ (s .fits) ok (sym (append-assoc (c .put (c .strip W a)) ws′ us) ∙ ap (λ ws. ws ++ us) (sym (s .words)) ∙ is) in
+      let word-by-word = sym (append-assoc (c .put (c .strip W a)) ws′ us) ∙ ap (λ ws. ws ++ us) (sym (s .words)) ∙ is in
+      let both = one-way (c .strip W a) f (ws′ ++ us) _ (s .fits) ok word-by-word in
       let there = subst (λ ws. Stops fs (wholes (length fs) (c .parse) b′ ws) (length ws)) (s .rest)
       (others b′ (ap (λ ws. ws ++ us) (s .rest) ∙ both .1)) in
       let long : length (drop b W) ≡ length (c .put f) + length ws′ =
