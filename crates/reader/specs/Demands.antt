@@ -1,5 +1,5 @@
 -- What is promised of the reader, as statements. The proofs stand in proofs/RoundTrip.antt, Numbers.antt, PointNumbers.antt, Standing.antt,
--- Parts.antt and, of the last, ByPlace.antt.
+-- PartsTile.antt, Parts.antt and, of the last, ByPlace.antt.
 use mathlib.Core.Path.{_≡_}
 use mathlib.Core.Logic.{_↔_, _⊎_}
 use mathlib.Core.Bool.{false, not, _&&_, _||_}

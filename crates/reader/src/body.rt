@@ -14,7 +14,7 @@ use layout::bits;
 use words::Word;
 use words::take_word;
 
-// A refused reading: every field absent (rule 5.14).
+// A refused reading: its number, the place that 15 has, and every other field absent (rules 5.14 and 5.16).
 fn refused(refusal: u16, place: Place) -> Reading
     ensures { λ r. ⌜ r ≡ refusedReading refusal place ⌝ }
 {
