@@ -1,9 +1,9 @@
 -- What the services of the table answer, and what no other part of the state becomes: each theorem by the one law of a service.
 use mathlib.Core.Path.{_≡_, refl, sym, ap, _∙_}
-use mathlib.Core.Logic.{_↔_, inl, inr}
+use mathlib.Core.Logic.{_↔_}
 use mathlib.Core.Bool.{Bool, true, false, not}
 use mathlib.Core.List.{List, [], _∷_}
-use Prim.Native.Nat.{ℕ}
+use Prim.Native.Nat.{ℕ, suc}
 use native.Mathlib.Omega.{arith}
 use lib.Dec.{T, eqb}
 use lib.ListN.{length, getD, take}
@@ -21,9 +21,8 @@ use Rattle.services.specs.Configuration.{configItem, configTaken}
 use Rattle.services.proofs.Lawful.{Responds}
 use Rattle.sensor.specs.declared.Service.{Service}
 use Rattle.sensor.specs.Table.{rowOf, response, serviceOf, outcomeOf, silent}
-use Rattle.sensor.specs.Requests.{outcome}
+use Rattle.sensor.specs.Requests.{outcome, requestOf}
 use Rattle.sensor.specs.Demands.{TableHolds, OnlyThese}
-use Rattle.sensor.proofs.Codes.{Has, service-has}
 use Rattle.sensor.proofs.Lawful.{lawful, outcome-fine}
 use Rattle.sensor.proofs.Demand1.{requested-by, served-so}
 
@@ -46,18 +45,19 @@ table-holds v h =
       none = λ s a b c d. no-word (silent v a b c d) _ _ (lawful v .fine s _ a b c d .responds);
     }
 
--- only SET_CONFIG answers its response code and no value, and then it stored nothing
-abbrev noConfig : List ℕ
-noConfig = response (rowOf Service.SetConfig .code) ∷ noValue ∷ []
+-- a service that says no by these words behind its response code leaves the state as it came
+abbrev SaysNoBy : Service → List ℕ → Type 0
+SaysNoBy w words =
+    (s : State) (a b c d : ℕ) → outcomeOf w s a b c d .words ≡ response (rowOf w .code) ∷ words → outcomeOf w s a b c d .after ≡ s
 
-set-config-no : (s : State) (a b c d : ℕ) → outcomeOf Service.SetConfig s a b c d .words ≡ noConfig → outcomeOf Service.SetConfig s a b c d .after ≡ s
+set-config-no : SaysNoBy Service.SetConfig (noValue ∷ [])
 set-config-no s a b c d = go (configTaken a b c d) refl
   where
     r : ℕ
     r = response (rowOf Service.SetConfig .code)
 
     go : (x : Bool) → configTaken a b c d ≡ x
-        → (if x then answer (withConfig s b c d) (r ∷ a ∷ []) else answer s (r ∷ noValue ∷ [])) .words ≡ noConfig
+        → (if x then answer (withConfig s b c d) (r ∷ a ∷ []) else answer s (r ∷ noValue ∷ [])) .words ≡ r ∷ noValue ∷ []
         → (if x then answer (withConfig s b c d) (r ∷ a ∷ []) else answer s (r ∷ noValue ∷ [])) .after ≡ s
     go true e q =
         let i : a ≡ configItem = eqb-true a configItem (is-true (and-l (eqb a configItem) (configOk b c d) (holds e))) in
@@ -65,28 +65,30 @@ set-config-no s a b c d = go (configTaken a b c d) refl
         absurd (omega arith)
     go false e q = refl
 
--- which service it is, by the first word
-code-is : (b : Bool) (code : ℕ) (ws : List ℕ) → Responds b (response code) ws → ws ≡ noConfig → code ≡ rowOf Service.SetConfig .code
-code-is true code ws r q = absurd (let z : _≡_ {A = ℕ} 2 0 = ap length (sym q ∙ r) in omega arith)
-code-is false code ws r q =
-    let z : response code ≡ response (rowOf Service.SetConfig .code) = ap (λ (l : List ℕ). getD l 0 0) (sym r ∙ ap (take 1) q) in
+-- which service answered, by the first word
+code-is : (b : Bool) (code k : ℕ) (ws rest : List ℕ) → Responds b (response code) ws → ws ≡ response k ∷ rest → code ≡ k
+code-is true code k ws rest r q = absurd (let z : _≡_ {A = ℕ} (suc (length rest)) 0 = ap length (sym q ∙ r) in omega arith)
+code-is false code k ws rest r q =
+    let z : response code ≡ response k = ap (λ (l : List ℕ). getD l 0 0) (sym r ∙ ap (take 1) q) in
     omega arith
 
-set-config-code : serviceOf (rowOf Service.SetConfig .code) ≡ Service.SetConfig
-unfolding serviceOf
-set-config-code = refl
+answered-by : (v w : Service) (s : State) (a b c d : ℕ) (rest : List ℕ) → outcomeOf v s a b c d .words ≡ response (rowOf w .code) ∷ rest → v ≡ w
+answered-by v w s a b c d rest q =
+    sym (lawful v .found) ∙ ap serviceOf (code-is (silent v a b c d) _ _ _ rest (lawful v .fine s _ a b c d .responds) q) ∙ lawful w .found
 
-no-config : (s : State) (code : ℕ) (v : Service) (a b c d : ℕ) → Has code v → outcomeOf v s a b c d .words ≡ noConfig
-    → outcomeOf v s a b c d .after ≡ s
-no-config s code v a b c d (inl h) q =
-    let same = code-is (silent v a b c d) (rowOf v .code) _ (lawful v .fine s _ a b c d .responds) q in
-    let w : v ≡ Service.SetConfig = sym (lawful v .found) ∙ ap serviceOf same ∙ set-config-code in
-    rw w (set-config-no s a b c d (rw w at q))
-no-config s code v a b c d (inr e) q = rw e
+-- so every request that is answered so left the state
+said-no-by : (w : Service) (words : List ℕ) → SaysNoBy w words → (s : State) (v : Service) (a b c d : ℕ)
+    → outcomeOf v s a b c d .words ≡ response (rowOf w .code) ∷ words → outcomeOf v s a b c d .after ≡ s
+said-no-by w words h s v a b c d q =
+    let e = answered-by v w s a b c d words q in
+    rw e (h s a b c d (rw e at q))
 
-request-no-config : (s : State) (ws : List ℕ) → outcome s ws .words ≡ noConfig → outcome s ws .after ≡ s
+request-no : (w : Service) (words : List ℕ) → SaysNoBy w words → (s : State) (ws : List ℕ) (room : ℕ)
+    → requestOf s ws room .written ≡ response (rowOf w .code) ∷ words → requestOf s ws room .reply .state ≡ s
 unfolding outcome
-request-no-config s ws = no-config s (getD ws 0 0) (serviceOf (getD ws 0 0)) _ _ _ _ (service-has (getD ws 0 0))
+request-no w words h s ws room =
+    requested-by (λ x. x .written ≡ response (rowOf w .code) ∷ words → x .reply .state ≡ s) s ws room (λ _ _. refl)
+    (λ _. said-no-by w words h s (serviceOf (getD ws 0 0)) _ _ _ _)
 
 pub only-these : OnlyThese
 only-these s ws room =
@@ -94,7 +96,7 @@ only-these s ws room =
       only =
           requested-by (λ x. x .reply .state ≡ onlyIn changes s (x .reply .state)) s ws room (λ _. same-in changes s)
           (λ e. outcome-fine s ws .only (parts s (served-so s ws e .0)));
-      no-config = requested-by (λ x. x .written ≡ noConfig → x .reply .state ≡ s) s ws room (λ _ _. refl) (λ _. request-no-config s ws);
+      no-config = request-no Service.SetConfig (noValue ∷ []) set-config-no s ws room;
     }
   where
     changes : List Part
