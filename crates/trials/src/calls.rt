@@ -5,6 +5,7 @@ use crate::answers::put_number;
 use crate::cases::list_of;
 use crate::cases::rest;
 use crate::readings::put_reading;
+use crate::states::STATE_WORDS;
 use crate::states::put_plan;
 use crate::states::put_state;
 use crate::states::state_of;
@@ -13,6 +14,9 @@ use state::Reply;
 use units::Angle;
 use units::Time;
 use words::word_at;
+
+// Where the words behind a state begin, of a case that has one behind its kind.
+const BEHIND_STATE: usize = STATE_WORDS + 1;
 
 // What a reply and the buffer after it say: the count, the next state, and the whole buffer.
 fn say_reply(reply: Reply, buffer: &[u16], out: &mut [u16]) -> Said {
@@ -30,8 +34,9 @@ fn say_reply(reply: Reply, buffer: &[u16], out: &mut [u16]) -> Said {
 fn request(case: &[u16], out: &mut [u16]) -> Said {
     let mut space = [0u16; 8192];
     let state = state_of(rest(case, 1));
-    let buffer = list_of(rest(case, 44), &mut space);
-    let reply = sensor::request(state, rest(case, 47), buffer);
+    let given = rest(case, BEHIND_STATE);
+    let buffer = list_of(given, &mut space);
+    let reply = sensor::request(state, rest(given, 3), buffer);
     say_reply(reply, buffer, out)
 }
 
@@ -41,10 +46,11 @@ fn revolution(case: &[u16], out: &mut [u16]) -> Said {
     let mut echo_space = [0u16; 8192];
     let mut space = [0u16; 8192];
     let state = state_of(rest(case, 1));
-    let start = Time(word_at(case, 44));
-    let distances = list_of(rest(case, 45), &mut distance_space);
-    let echoes = list_of(rest(case, 48), &mut echo_space);
-    let buffer = list_of(rest(case, 51), &mut space);
+    let given = rest(case, BEHIND_STATE);
+    let start = Time(word_at(given, 0));
+    let distances = list_of(rest(given, 1), &mut distance_space);
+    let echoes = list_of(rest(given, 4), &mut echo_space);
+    let buffer = list_of(rest(given, 7), &mut space);
     let reply = profile::revolution(state, start, distances, echoes, buffer);
     say_reply(reply, buffer, out)
 }

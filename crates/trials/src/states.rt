@@ -9,6 +9,9 @@ use state::State;
 use units::Angle;
 use words::word_at;
 
+// How many words a state has.
+pub(crate) const STATE_WORDS: usize = 43;
+
 // The mode of a word.
 fn mode_of(w: u16) -> Mode {
     match w {
@@ -85,7 +88,7 @@ fn put_job(out: &mut [u16], at: usize, job: Job) -> usize {
     }
 }
 
-// A state's 43 words.
+// A state's words.
 pub(crate) fn put_state(out: &mut [u16], at: usize, state: State) -> usize {
     let working = state.working;
     let stored = state.stored;

@@ -28,7 +28,7 @@ fn cases_of_the_format() -> Vec<Vec<u16>> {
     cases.push(request[..request.len() - 2].to_vec());
     cases.push(request[..request.len() - 4].to_vec());
     // the buffer's length is the remainder of its word by 8192
-    request[44] += 8192;
+    request[1 + state.len()] += 8192;
     cases.push(request);
     let mut plan = case_parts::normal_plan_case(8, &plan_of(&[(3, 800), (3, 1600)]));
     cases.push(plan[..6].to_vec());
