@@ -12,7 +12,7 @@ use Rattle.plan.specs.Sectors.{stopOf, entryAt, withEntry}
 use Rattle.plan.specs.Checks.{measureError}
 use Rattle.words.proofs.Tests.{said-no, said-yes}
 use Rattle.state.specs.declared.State.{State}
-use Rattle.state.specs.declared.Mode.the-variants.{Rotate, Measure}
+use Rattle.state.specs.declared.Mode.the-variants.{Idle, Rotate, Measure}
 use Rattle.state.specs.declared.Job.{Job}
 use Rattle.state.specs.declared.Job.the-variants.{Absent}
 use Rattle.state.specs.Modes.{modeNumber}
@@ -78,6 +78,13 @@ module _ (r : Served) (s : State) (code number mask : ℕ) where
 pub is-cold : (s a b c t : State)
     → a ≡ idleOf s → b ≡ withPlans a (s .stored) (s .stored) → c ≡ withPort b 0 → t ≡ withCounter c 0 → t ≡ coldOf s
 is-cold s a b c t ea eb ec et = rw (et, ec, eb, ea)
+
+module _ (s : State) where
+  pub idle-stays : s .mode ≡ Idle → s ≡ stopMeasure s (s .mode)
+  idle-stays m = rw m
+
+  pub rotate-stays : s .mode ≡ Rotate → s ≡ stopMeasure s (s .mode)
+  rotate-stays m = rw m
 
 pub measure-ends : (s t : State) → s .mode ≡ Measure → t ≡ withDrive s Rotate (s .running) Absent → t ≡ stopMeasure s (s .mode)
 measure-ends s t m e = rw m e

@@ -1,6 +1,5 @@
 use borrow.Author.Needs.{needs}
-use Rattle.words.proofs.Tests.{picks}
-use Rattle.services.proofs.Exits.{measure-ends}
+use Rattle.services.proofs.Exits.{idle-stays, rotate-stays, measure-ends}
 use Rattle.services.proofs.working.stop_measure.Statement.{statement}
 use Rattle.services.proofs.working.stop_measure.Tie as tie
 
@@ -12,6 +11,6 @@ stop-measure-spec =
     (λ c. search needs)
     (λ c. search needs)
     (λ c κs. search needs)
-    (λ c. search picks)
-    (λ c. search picks)
+    (λ c. search idle-stays)
+    (λ c. search rotate-stays)
     (λ c. search measure-ends))
