@@ -8,8 +8,11 @@ use Rattle.words.proofs.Tests.{and-l, and-r, and-both}
 use Rattle.state.specs.declared.State.{State}
 use Rattle.state.specs.declared.Mode.{Mode}
 use Rattle.state.specs.declared.Job.{Job}
-use Rattle.state.specs.Fields.{withConfig, withPlans, withDrive, withPort, withCounter}
+use Rattle.state.specs.declared.Settings.{Settings}
+use Rattle.state.specs.Nav300.{settingsOk}
+use Rattle.state.specs.Fields.{withConfig, withPlans, withDrive, withPort, withCounter, withSettings}
 use Rattle.state.specs.Ranges.{configOk, runningOk, checksOk, jobOk, aloneOk, inRange}
+use Rattle.state.proofs.SettingsParts.{InRanges, settings-parts, settings-whole}
 
 pub record Hold (c w r k j a : Bool) : Type 0 where
   pub config : T c
@@ -45,15 +48,21 @@ with-alone : {c w r k j a b : Bool} → Hold c w r k j a → T b → Hold c w r 
 with-alone p h =
     record { config = p .config; working = p .working; running = p .running; checks = p .checks; job = p .job; alone = h }
 
--- The stored plan, and the fields that stand alone where it is another.
+-- The stored plan and the settings, and the fields that stand alone where the plan is another.
 pub stored-of : (s : State) → Parts s → T (planInRange (s .stored))
-stored-of s p = p .alone
+stored-of s p = and-l (planInRange (s .stored)) (settingsOk (s .settings)) (p .alone)
+
+settings-ok : (s : State) → Parts s → T (settingsOk (s .settings))
+settings-ok s p = and-r (planInRange (s .stored)) (settingsOk (s .settings)) (p .alone)
+
+pub settings-of : (s : State) → Parts s → InRanges (s .settings)
+settings-of s p = settings-parts (s .settings) (settings-ok s p)
 
 stored-set : (s : State) → Parts s → (w t : Plan) → T (planInRange t) → T (aloneOk (withPlans s w t))
-stored-set s p w t b = b
+stored-set s p w t b = and-both (planInRange t) (settingsOk (s .settings)) b (settings-ok s p)
 
--- What is asked where some fields are set: the others are in their ranges as before. A new field that stands alone changes the two laws
--- above, and none below.
+-- What is asked where some fields are set: the others are in their ranges as before. A new field that stands alone changes the laws above,
+-- and none below but its own.
 module _ (s : State) (p : Parts s) where
   pub config-set : (id speed step : ℕ) → T (configOk id speed step) → T (checksOk (s .mode) (s .working) step (s .running))
       → Parts (withConfig s id speed step)
@@ -74,3 +83,6 @@ module _ (s : State) (p : Parts s) where
 
   pub counter-set : (counter : ℕ) → Parts (withCounter s counter)
   counter-set counter = with-alone p (p .alone)
+
+  pub settings-set : (n : Settings) → InRanges n → Parts (withSettings s n)
+  settings-set n h = with-alone p (and-both (planInRange (s .stored)) (settingsOk n) (stored-of s p) (settings-whole n h))

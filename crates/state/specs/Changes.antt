@@ -5,8 +5,10 @@ use Prim.Native.Nat.{ℕ}
 use lib.Dec.{eqb}
 use Rattle.words.specs.Choice.{if_then_else_}
 use Rattle.state.specs.declared.State.{State}
+use Rattle.state.specs.Nav300.{settingsOf}
 
--- the configuration is id, configured speed and step (rule 4.4)
+-- the configuration is id, configured speed and step; of the settings, the direction of rotation, the working pair of threshold and radius,
+-- and the stored pair are a part each (rule 4.4)
 pub data Part : Type 0 where
   config : Part
   working : Part
@@ -16,6 +18,9 @@ pub data Part : Type 0 where
   port : Part
   counter : Part
   job : Part
+  rotation : Part
+  reflector : Part
+  saved : Part
 
 -- a number for each, by which they are told apart (rule 4.4)
 abbrev pub partNumber : Part → ℕ
@@ -27,6 +32,9 @@ partNumber running = 4
 partNumber port = 5
 partNumber counter = 6
 partNumber job = 7
+partNumber rotation = 8
+partNumber reflector = 9
+partNumber saved = 10
 
 -- the part is one of these (rule 4.4)
 abbrev pub isOneOf : Part → List Part → Bool
@@ -47,4 +55,9 @@ onlyIn parts s t =
       port = if isOneOf port parts then t .port else s .port;
       counter = if isOneOf counter parts then t .counter else s .counter;
       job = if isOneOf job parts then t .job else s .job;
+      settings =
+          settingsOf
+          (if isOneOf rotation parts then t .settings .rotation else s .settings .rotation)
+          (if isOneOf reflector parts then t .settings .working else s .settings .working)
+          (if isOneOf saved parts then t .settings .stored else s .settings .stored);
     }

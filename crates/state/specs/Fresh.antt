@@ -6,13 +6,19 @@ use Rattle.units.specs.Units.{angle}
 use Rattle.plan.specs.declared.Plan.{Plan}
 use Rattle.plan.specs.Sectors.{sector, filled}
 use Rattle.state.specs.declared.State.{State}
+use Rattle.state.specs.declared.Settings.{Settings}
 use Rattle.state.specs.declared.Mode.the-variants.{Idle, Measure}
 use Rattle.state.specs.declared.Job.the-variants.{Absent, Counted}
+use Rattle.state.specs.Nav300.{reflector, settingsOf}
 use Rattle.state.specs.Fields.{withConfig, withPlans, withDrive}
 
 -- one sector of function 3 that begins at 0 (rule 2.9)
 abbrev pub freshPlan : Plan
 freshPlan = filled (sector 3 5752 ∷ [])
+
+-- clockwise; 50 % and flat, as working and as stored pair (rule 2.9)
+abbrev pub freshSettings : Settings
+freshSettings = settingsOf 1 (reflector 50 0) (reflector 50 0)
 
 abbrev pub freshState : State
 freshState =
@@ -27,6 +33,7 @@ freshState =
       port = 0;
       counter = 0;
       job = Absent;
+      settings = freshSettings;
     }
 
 -- the contract of `fresh` (rule 2.9)

@@ -4,6 +4,7 @@ ghost use Rattle.state.specs.Ranges.{speedOk, configOk, driveOk, isMeasu
 use crate::Job;
 use crate::Mode;
 use crate::State;
+use crate::nav300::settings_ok;
 use plan::Plan;
 use units::Angle;
 
@@ -86,12 +87,13 @@ fn job_ok(mode: Mode, job: Job) -> bool
     }
 }
 
-// The fields that no other field goes with (rule 2.2).
+// The fields that no other field goes with (rules 2.2 and 2.10).
 fn alone_ok(state: State) -> bool
     ensures { λ r. ⌜ r ≡ aloneOk state ⌝ }
 {
     let stored = state.stored;
-    plan::plan_in_range(stored)
+    let settings = state.settings;
+    plan::plan_in_range(stored) & settings_ok(settings)
 }
 
 // Every field is in its range. A state is so as a rule, so no test is left out (rule 2.8).

@@ -1,8 +1,9 @@
 // The state with some of its fields set. Only `fresh` writes a state out, so a new field needs no line here.
 ghost use mathlib.Core.Path.{_≡_};
-ghost use Rattle.state.specs.Fields.{withConfig, withPlans, withDrive, withPort, withCounter};
+ghost use Rattle.state.specs.Fields.{withConfig, withPlans, withDrive, withPort, withCounter, withSettings};
 use crate::Job;
 use crate::Mode;
+use crate::Settings;
 use crate::State;
 use plan::Plan;
 use units::Angle;
@@ -49,4 +50,10 @@ pub fn with_counter(state: State, counter: u16) -> State
     ensures { λ r. ⌜ r ≡ withCounter state counter ⌝ }
 {
     State { counter, ..state }
+}
+
+pub fn with_settings(state: State, settings: Settings) -> State
+    ensures { λ r. ⌜ r ≡ withSettings state settings ⌝ }
+{
+    State { settings, ..state }
 }

@@ -2,10 +2,14 @@
 ghost use Rattle.state.specs.Fresh.{FreshSays};
 use crate::Job;
 use crate::Mode;
+use crate::Reflector;
+use crate::Settings;
 use crate::State;
 use plan::Plan;
 use plan::Sector;
 use units::Angle;
+use units::Millimetres;
+use units::Percent;
 
 pub fn fresh() -> State
     ensures { λ r. ⌜ FreshSays r ⌝ }
@@ -26,6 +30,15 @@ pub fn fresh() -> State
         unused,
     ];
     let plan = Plan { sectors };
+    let reflector = Reflector {
+        threshold: Percent(50),
+        radius: Millimetres(0),
+    };
+    let settings = Settings {
+        rotation: 1,
+        working: reflector,
+        stored: reflector,
+    };
     State {
         id: 1,
         speed: 10,
@@ -37,5 +50,6 @@ pub fn fresh() -> State
         port: 0,
         counter: 0,
         job: Job::Absent,
+        settings,
     }
 }

@@ -1,4 +1,4 @@
-// Angles, distances, times and echoes, kept apart: a type each, and what is done with them (rule 1.3).
+// Angles, distances, times, echoes, percent and millimetres, kept apart: a type each, and what is done with them (rule 1.3).
 mod directions;
 mod times;
 
@@ -28,6 +28,12 @@ pub struct Time(pub u16);
 // The strength of an echo.
 #[repr(C)]
 pub struct Echo(pub u16);
+
+// A share of the way from one strength of echo to another, in percent: the threshold of reflectors, which is no echo.
+pub struct Percent(pub u16);
+
+// A length in millimetres: the radius of reflectors, which is no distance in 1/256 metre.
+pub struct Millimetres(pub u16);
 
 // The directions of a revolution; `circle` in the specs.
 pub const CIRCLE: u16 = 5760;
