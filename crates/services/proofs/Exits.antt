@@ -15,8 +15,10 @@ use Rattle.state.specs.declared.State.{State}
 use Rattle.state.specs.declared.Mode.the-variants.{Idle, Rotate, Measure}
 use Rattle.state.specs.declared.Job.{Job}
 use Rattle.state.specs.declared.Job.the-variants.{Absent}
+use Rattle.state.specs.declared.Settings.{Settings}
 use Rattle.state.specs.Modes.{modeNumber}
-use Rattle.state.specs.Fields.{withConfig, withPlans, withDrive, withPort, withCounter}
+use Rattle.state.specs.Nav300.{restored}
+use Rattle.state.specs.Fields.{withConfig, withPlans, withDrive, withPort, withCounter, withSettings}
 use Rattle.state.specs.Ranges.{speedOk}
 use Rattle.services.specs.declared.Served.{Served}
 use Rattle.services.specs.Answers.{answer, senstat, answerStatus, noValue, Gives}
@@ -75,9 +77,10 @@ module _ (r : Served) (s : State) (code number mask : ℕ) where
   job-starts j t h ej et g = rw (ne-eqb _ _ h) (rw (et, ej) at g)
 
 -- `cold`, `stop_measure`
-pub is-cold : (s a b c t : State)
-    → a ≡ idleOf s → b ≡ withPlans a (s .stored) (s .stored) → c ≡ withPort b 0 → t ≡ withCounter c 0 → t ≡ coldOf s
-is-cold s a b c t ea eb ec et = rw (et, ec, eb, ea)
+pub is-cold : (s a b c d t : State) (n : Settings)
+    → a ≡ idleOf s → b ≡ withPlans a (s .stored) (s .stored) → c ≡ withPort b 0 → d ≡ withCounter c 0
+    → n ≡ restored (s .settings) → t ≡ withSettings d n → t ≡ coldOf s
+is-cold s a b c d t n ea eb ec ed en et = rw (et, en, ed, ec, eb, ea)
 
 module _ (s : State) where
   pub idle-stays : s .mode ≡ Idle → s ≡ stopMeasure s (s .mode)

@@ -24,10 +24,12 @@ use Rattle.state.specs.declared.Job.{Job}
 use Rattle.state.specs.declared.Job.the-variants.{Absent, Counted, Endless}
 use Rattle.state.specs.Changes.{Part, onlyIn}
 use Rattle.state.specs.Changes as part
-use Rattle.state.specs.Fields.{withConfig, withPlans, withDrive, withPort}
+use Rattle.state.specs.Nav300.{restored}
+use Rattle.state.specs.Fields.{withConfig, withPlans, withDrive, withPort, withCounter}
 use Rattle.state.specs.Ranges.{speedOk, configOk, runningOk, checksOk, jobOk}
 use Rattle.state.specs.Replies.{Outcome}
-use Rattle.state.proofs.Parts.{Parts, stored-of, config-set, plans-set, drive-set, port-set, counter-set}
+use Rattle.state.proofs.SettingsParts.{InRanges}
+use Rattle.state.proofs.Parts.{Parts, stored-of, settings-of, config-set, plans-set, drive-set, port-set, counter-set, settings-set}
 use Rattle.services.specs.Answers.{answer, answerStatus, senstat, longest}
 use Rattle.services.specs.Configuration.{configItem, configTaken, setConfig, sectorSet, functionSet, stopSet, workingSet, setFunction}
 use Rattle.services.specs.Measurement.{newJob, startsJob, getProfile, cancelProfile}
@@ -213,10 +215,16 @@ module _ {Asked : Type 0} (s : State) (code : ℕ) where
       plans : Parts s → Parts planned
       plans p = plans-set (idleOf s) (idle p) (s .stored) (s .stored) (stored-of s p) (stored-of s p) tt
 
+      cleared : State
+      cleared = withCounter (withPort planned 0) 0
+
+      taken-back : Parts s → InRanges (restored (s .settings))
+      taken-back p = let n = settings-of s p in record { rotation = n .rotation; working = n .stored; stored = n .stored }
+
       cold : Fine false code resetParts Asked s (answer (coldOf s) words)
       cold =
           sets code s words refl tt (coldOf s) (λ _. refl) (λ h. (h .1, h .1))
-          (λ _ p. counter-set (withPort planned 0) (port-set planned (plans p) 0) 0)
+          (λ _ p. settings-set cleared (counter-set (withPort planned 0) (port-set planned (plans p) 0) 0) _ (taken-back p))
 
       stop : (m : Mode) → s .mode ≡ m → Fine false code resetParts Asked s (answer (stopMeasure s m) words)
       stop Idle e = stays code s words refl tt refl

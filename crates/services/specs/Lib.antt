@@ -1,6 +1,7 @@
--- To be read in this order: what an answer is, then the services in the groups of the listing.
+-- To be read in this order: what an answer is, then the services in the groups of the listings.
 pub mod Answers
 pub mod Status
 pub mod Configuration
 pub mod Measurement
 pub mod Working
+pub mod Nav300

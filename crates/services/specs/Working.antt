@@ -10,7 +10,8 @@ use Rattle.state.specs.declared.Mode.the-variants.{Idle, Rotate, Measure}
 use Rattle.state.specs.declared.Job.the-variants.{Absent}
 use Rattle.state.specs.Changes.{Part}
 use Rattle.state.specs.Changes as part
-use Rattle.state.specs.Fields.{withPlans, withDrive, withPort, withCounter}
+use Rattle.state.specs.Nav300.{restored}
+use Rattle.state.specs.Fields.{withPlans, withDrive, withPort, withCounter, withSettings}
 use Rattle.state.specs.Ranges.{speedOk}
 use Rattle.state.specs.Replies.{Outcome}
 use Rattle.services.specs.Answers.{answer, answerStatus, senstat}
@@ -20,15 +21,16 @@ abbrev pub driveParts : List Part
 driveParts = part.mode ∷ part.running ∷ part.job ∷ []
 
 abbrev pub resetParts : List Part
-resetParts = part.working ∷ part.mode ∷ part.running ∷ part.port ∷ part.counter ∷ part.job ∷ []
+resetParts = part.working ∷ part.mode ∷ part.running ∷ part.port ∷ part.counter ∷ part.job ∷ part.reflector ∷ []
 
 -- IDLE at running speed 0 (rule 4.14)
 abbrev pub idleOf : State → State
 idleOf s = withDrive s Idle 0 Absent
 
--- as fresh, but for the configuration and the stored plan, which becomes the working one (rule 4.12)
+-- as fresh, but for the configuration, the direction of rotation, and what is stored, which becomes the working plan and the working pair of
+-- threshold and radius (rule 4.12)
 abbrev pub coldOf : State → State
-coldOf s = withCounter (withPort (withPlans (idleOf s) (s .stored) (s .stored)) 0) 0
+coldOf s = withSettings (withCounter (withPort (withPlans (idleOf s) (s .stored) (s .stored)) 0) 0) (restored (s .settings))
 
 -- MEASURE becomes ROTATE; nothing is done in other modes (rule 4.13)
 abbrev pub stopMeasure : State → Mode → State

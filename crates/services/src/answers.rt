@@ -41,7 +41,7 @@ pub(crate) fn two_words(state: State, a: u16, b: u16) -> Served
     }
 }
 
-fn three_words(state: State, a: u16, b: u16, c: u16) -> Served
+pub(crate) fn three_words(state: State, a: u16, b: u16, c: u16) -> Served
     ensures { λ r. ⌜ Gives r (answer state (a ∷ b ∷ c ∷ [])) ⌝ }
 {
     let mut words = [0u16; LONGEST];

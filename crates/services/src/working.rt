@@ -6,6 +6,7 @@ use crate::Served;
 use crate::answers::answer_status;
 use crate::answers::answer_status_and;
 use crate::answers::two_words;
+use crate::nav300::restored;
 use state::Job;
 use state::Mode;
 use state::State;
@@ -17,14 +18,17 @@ fn idle(state: State) -> State
     state::with_drive(state, Mode::Idle, 0, Job::Absent)
 }
 
-// As after power on, but for the configuration and the stored plan, which becomes the working one (rule 4.12).
+// As after power on, but for the configuration, the direction of rotation, and what is stored, which becomes the working plan and the working
+// pair of threshold and radius (rule 4.12).
 fn cold(state: State) -> State
     ensures { λ r. ⌜ r ≡ coldOf state ⌝ }
 {
     let stored = state.stored;
+    let settings = state.settings;
     let stopped = idle(state);
     let planned = state::with_plans(stopped, stored, stored);
-    state::with_counter(state::with_port(planned, 0), 0)
+    let cleared = state::with_counter(state::with_port(planned, 0), 0);
+    state::with_settings(cleared, restored(settings))
 }
 
 // MEASURE becomes ROTATE with no job; other modes stay (rule 4.13).
