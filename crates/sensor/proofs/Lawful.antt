@@ -12,6 +12,7 @@ use Rattle.state.specs.Replies.{Outcome}
 use Rattle.services.specs.Configuration.{configItem}
 use Rattle.services.proofs.Lawful.{Fine, stays}
 use Rattle.services.proofs.Lawful as law
+use Rattle.services.proofs.SettingsLawful as settings
 use Rattle.sensor.specs.declared.Service.{Service}
 use Rattle.sensor.specs.Table.{rowOf, response, serviceOf, allowed, silent}
 use Rattle.sensor.specs.Requests.{outcome}
@@ -64,6 +65,11 @@ lawful Service.TransIdle = record { found = refl; fine = λ s r a b c d. law.idl
 lawful Service.TransRotate = record { found = refl; fine = λ s r a b c d. law.rotate-fine s r a }
 lawful Service.TransMeasure =
     record { found = refl; fine = λ s r a b c d. law.measure-fine s r (unlisted Service.TransMeasure s a Idle (λ h. h)) }
+lawful Service.SetRotateDirection = record { found = refl; fine = λ s r a b c d. settings.rotation-fine s r a }
+lawful Service.SetReflectorConfig = record { found = refl; fine = λ s r a b c d. settings.reflector-fine s r a b }
+lawful Service.GetRotateDirection = record { found = refl; fine = λ s r a b c d. stays r s _ refl tt refl }
+lawful Service.GetReflectorConfig = record { found = refl; fine = λ s r a b c d. stays r s _ refl tt refl }
+lawful Service.SavePermanent = record { found = refl; fine = λ s r a b c d. settings.save-fine s r }
 lawful Service.Unknown = record { found = refl; fine = λ s r a b c d. stays r s [] refl tt refl }
 
 -- the same of a request's outcome

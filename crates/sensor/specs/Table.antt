@@ -16,6 +16,7 @@ use Rattle.services.specs.Status.{getStatus, getSignal, setSignal}
 use Rattle.services.specs.Configuration.{setConfig, getConfig, setFunction, getFunction}
 use Rattle.services.specs.Measurement.{startsJob, getProfile, cancelProfile}
 use Rattle.services.specs.Working.{driveParts, resetParts, doReset, transIdle, transRotate, transMeasure}
+use Rattle.services.specs.Nav300.{setRotateDirection, getRotateDirection, setReflectorConfig, getReflectorConfig, savePermanent}
 use Rattle.sensor.specs.declared.Service.{Service}
 
 -- a row of the table: the code, how many words come in, the code's included, whether IDLE, ROTATE and MEASURE are listed, the parts of the
@@ -48,6 +49,11 @@ rowOf Service.DoReset = entry 0x0401 2 true true true resetParts (λ s r a b c d
 rowOf Service.TransIdle = entry 0x0402 1 true true true driveParts (λ s r a b c d. transIdle s r)
 rowOf Service.TransRotate = entry 0x0403 2 true true true driveParts (λ s r a b c d. transRotate s r a)
 rowOf Service.TransMeasure = entry 0x0404 1 false true true (part.mode ∷ []) (λ s r a b c d. transMeasure s r)
+rowOf Service.SetRotateDirection = entry 0x1201 2 true true false (part.rotation ∷ []) (λ s r a b c d. setRotateDirection s r a)
+rowOf Service.SetReflectorConfig = entry 0x1202 3 true true false (part.reflector ∷ []) (λ s r a b c d. setReflectorConfig s r a b)
+rowOf Service.GetRotateDirection = entry 0x1211 1 true true true [] (λ s r a b c d. getRotateDirection s r)
+rowOf Service.GetReflectorConfig = entry 0x1212 1 true true true [] (λ s r a b c d. getReflectorConfig s r)
+rowOf Service.SavePermanent = entry 0x1701 1 true true false (part.saved ∷ []) (λ s r a b c d. savePermanent s r)
 rowOf Service.Unknown = entry 0 0 false false false [] (λ s r a b c d. answer s [])
 
 -- a response code; `RESPONSE` in the code (rule 4.1)
@@ -70,6 +76,11 @@ services =
     ∷ Service.TransIdle
     ∷ Service.TransRotate
     ∷ Service.TransMeasure
+    ∷ Service.SetRotateDirection
+    ∷ Service.SetReflectorConfig
+    ∷ Service.GetRotateDirection
+    ∷ Service.GetReflectorConfig
+    ∷ Service.SavePermanent
     ∷ []
 
 -- the first service of a list that has the code, and Unknown where none has (rule 4.3)

@@ -19,5 +19,10 @@ pub enum Service {
     TransIdle,
     TransRotate,
     TransMeasure,
+    SetRotateDirection,
+    SetReflectorConfig,
+    GetRotateDirection,
+    GetReflectorConfig,
+    SavePermanent,
     Unknown,
 }

@@ -8,6 +8,8 @@ use services::Served;
 use state::Mode;
 use state::State;
 use units::Angle;
+use units::Millimetres;
+use units::Percent;
 
 // What a response code has more than its request's; `response` in the specs (rule 4.1).
 const RESPONSE: u32 = 0x8000;
@@ -33,6 +35,11 @@ pub(crate) fn row_of(code: u16) -> Row
         0x0402 => Row(Service::TransIdle, 1, true, true, true),
         0x0403 => Row(Service::TransRotate, 2, true, true, true),
         0x0404 => Row(Service::TransMeasure, 1, false, true, true),
+        0x1201 => Row(Service::SetRotateDirection, 2, true, true, false),
+        0x1202 => Row(Service::SetReflectorConfig, 3, true, true, false),
+        0x1211 => Row(Service::GetRotateDirection, 1, true, true, true),
+        0x1212 => Row(Service::GetReflectorConfig, 1, true, true, true),
+        0x1701 => Row(Service::SavePermanent, 1, true, true, false),
         _ => Row(Service::Unknown, 0, false, false, false),
     }
 }
@@ -81,6 +88,16 @@ pub(crate) fn serve(
         Service::TransIdle => services::trans_idle(state, code),
         Service::TransRotate => services::trans_rotate(state, code, a),
         Service::TransMeasure => services::trans_measure(state, code),
+        Service::SetRotateDirection => services::set_rotate_direction(state, code, a),
+        Service::SetReflectorConfig => services::set_reflector_config(
+            state,
+            code,
+            Percent(a),
+            Millimetres(b),
+        ),
+        Service::GetRotateDirection => services::get_rotate_direction(state, code),
+        Service::GetReflectorConfig => services::get_reflector_config(state, code),
+        Service::SavePermanent => services::save_permanent(state, code),
         Service::Unknown => services::no_word(state),
     }
 }
