@@ -2,7 +2,7 @@
 -- proofs/Served.antt.
 use mathlib.Core.Path.{_≡_}
 use mathlib.Core.Logic.{_↔_}
-use mathlib.Core.Bool.{not}
+use mathlib.Core.Bool.{Bool, not}
 use mathlib.Core.List.{List, [], _∷_}
 use Prim.Native.Nat.{ℕ, _≤_}
 use lib.Dec.{T, ltb, eqb}
@@ -24,13 +24,17 @@ RefusalsChangeNothing =
     (s : State) (ws before : List ℕ) → (requestOf s ws (length before) .reply .refusal ≡ 0 → ⊥)
     → Unchanged s before (requestOf s ws (length before))
 
+-- no service of a list has the code that is asked (rule 4.3)
+abbrev pub asksNone : List ℕ → List Service → Bool
+asksNone ws vs = every (λ v. not (eqb (getD ws 0 0) (rowOf v .code))) vs
+
 -- the numbers 1 to 6, each beside what it is due for: a field of the state is out of its range; nothing is asked; no row has the code; the
 -- row asks for more or fewer words; it does not name the mode; the room is less than the answer (rule 6.1)
 abbrev pub numbersForNo : State → List ℕ → ℕ → List No
 numbersForNo s ws room =
     no 1 (not (inRange s))
     ∷ no 2 (not (some ws))
-    ∷ no 3 (every (λ v. not (eqb (getD ws 0 0) (rowOf v .code))) services)
+    ∷ no 3 (asksNone ws services)
     ∷ no 4 (not (eqb (length ws) (rowOf (serviceOf (getD ws 0 0)) .wordsIn)))
     ∷ no 5 (not (allowed (serviceOf (getD ws 0 0)) (s .mode)))
     ∷ no 6 (ltb room (length (outcome s ws .words)))
