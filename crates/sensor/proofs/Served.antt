@@ -50,20 +50,17 @@ abbrev SaysNoBy : Service → List ℕ → Type 0
 SaysNoBy w words =
     (s : State) (a b c d : ℕ) → outcomeOf w s a b c d .words ≡ response (rowOf w .code) ∷ words → outcomeOf w s a b c d .after ≡ s
 
-set-config-no : SaysNoBy Service.SetConfig (noValue ∷ [])
-set-config-no s a b c d = go (configTaken a b c d) refl
-  where
-    r : ℕ
-    r = response (rowOf Service.SetConfig .code)
+-- by a test: a value is answered and something stored, or the word for no is answered and nothing stored; no value that is taken is that word
+by-one-word : (taken : Bool) (s t : State) (code value bad : ℕ) → (taken ≡ true → value ≡ bad → ⊥)
+    → (if taken then answer t (code ∷ value ∷ []) else answer s (code ∷ bad ∷ [])) .words ≡ code ∷ bad ∷ []
+    → (if taken then answer t (code ∷ value ∷ []) else answer s (code ∷ bad ∷ [])) .after ≡ s
+by-one-word true s t code value bad n q = absurd (n refl (ap (λ (l : List ℕ). getD l 1 0) q))
+by-one-word false s t code value bad n q = refl
 
-    go : (x : Bool) → configTaken a b c d ≡ x
-        → (if x then answer (withConfig s b c d) (r ∷ a ∷ []) else answer s (r ∷ noValue ∷ [])) .words ≡ r ∷ noValue ∷ []
-        → (if x then answer (withConfig s b c d) (r ∷ a ∷ []) else answer s (r ∷ noValue ∷ [])) .after ≡ s
-    go true e q =
-        let i : a ≡ configItem = eqb-true a configItem (is-true (and-l (eqb a configItem) (configOk b c d) (holds e))) in
-        let j : a ≡ noValue = ap (λ (l : List ℕ). getD l 1 0) q in
-        absurd (omega arith)
-    go false e q = refl
+set-config-no : SaysNoBy Service.SetConfig (noValue ∷ [])
+set-config-no s a b c d =
+    by-one-word (configTaken a b c d) s (withConfig s b c d) _ a noValue
+    (λ e z. (let i : a ≡ configItem = eqb-true a configItem (is-true (and-l (eqb a configItem) (configOk b c d) (holds e))) in omega arith))
 
 -- which service answered, by the first word
 code-is : (b : Bool) (code k : ℕ) (ws rest : List ℕ) → Responds b (response code) ws → ws ≡ response k ∷ rest → code ≡ k
