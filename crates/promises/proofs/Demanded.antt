@@ -6,6 +6,7 @@ use Rattle.sensor.proofs.Demand1 as requests
 use Rattle.plan.proofs.Rounds.{revolution}
 use Rattle.plan.proofs.Tiling.{tiling, counting}
 use Rattle.sensor.proofs.Served.{table-holds, only-these}
+use Rattle.sensor.proofs.SettingsKept.{settings-kept}
 use Rattle.profile.proofs.Revolved as revolutions
 use Rattle.profile.proofs.Carried.{points-are-shots, sent-length, never-longer}
 use Rattle.profile.proofs.AllShots.{all-points}
@@ -20,6 +21,7 @@ use Rattle.promises.specs.Demands.{Demand1, Demand2, Demand3}
 use Rattle.promises.proofs.Determining.{determined}
 use Rattle.promises.proofs.Exchanged.{sent-is-read}
 use Rattle.promises.proofs.Living.{living}
+use Rattle.promises.proofs.Untouched.{settings-unsent}
 
 pub demand1 : Demand1
 demand1 =
@@ -45,6 +47,8 @@ demand2 =
     record {
       tabled = table-holds;
       only-these = only-these;
+      settings-kept = settings-kept;
+      settings-unsent = settings-unsent;
       runs-round = revolution;
       tiling = tiling;
       counting = counting;

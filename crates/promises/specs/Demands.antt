@@ -3,7 +3,7 @@
 use Rattle.normal.specs.Demands.{Demand3 as NormalPlans, AnswersValid, RefusalsExactly as PlanNumbers, RefusalsGiveZeros}
 use Rattle.layout.specs.Lengths.{LayoutLength}
 use Rattle.plan.specs.Demands.{Tiling, Counting, Revolution}
-use Rattle.sensor.specs.Demands.{RefusalsExactly as RequestNumbers, RefusalsChangeNothing as RequestUnchanged, RoomForAll, TableHolds, OnlyThese}
+use Rattle.sensor.specs.Demands.{RefusalsExactly as RequestNumbers, RefusalsChangeNothing as RequestUnchanged, RoomForAll, TableHolds, OnlyThese, SettingsKept}
 use Rattle.profile.specs.Demands.{RefusalsExactly as RevolutionNumbers, RefusalsChangeNothing as RevolutionUnchanged}
 use Rattle.profile.specs.Demands.{NearestTimes, SentLength, NeverLonger, PointsAreShots, AllPoints}
 use Rattle.reader.specs.Demands.{AcceptsExactly, PutTogether, ReadsBack, OneReading, NoPoints, StandsAtPlace}
@@ -11,6 +11,7 @@ use Rattle.reader.specs.Demands.{RefusalsExactly as ReaderNumbers, EndsPlaced, 
 use Rattle.promises.specs.Determined.{Determined}
 use Rattle.promises.specs.Exchange.{SentIsRead}
 use Rattle.promises.specs.Life.{Life}
+use Rattle.promises.specs.Unsent.{SettingsUnsent}
 
 -- 1. Whatever words, buffer and state a call is handed, it answers and ends. What it refuses by number leaves every word and the whole
 -- state as they were, and no caller has to test anything before (rules 1.5, 6.1 and 6.2)
@@ -43,6 +44,9 @@ pub record Demand2 : Type 0 where
   -- the table and its answers, and that a service changes no part of the state but its own
   pub tabled : TableHolds
   pub only-these : OnlyThese
+  -- which requests keep the settings of the NAV300; revolutions keep them, and do not depend on them
+  pub settings-kept : SettingsKept
+  pub settings-unsent : SettingsUnsent
   -- a revolution: the directions and functions of its shots, how the sectors share them, and how many of them count
   pub runs-round : Revolution
   pub tiling : Tiling

@@ -3,6 +3,7 @@ pub mod Demands
 pub mod Determined
 pub mod Exchange
 pub mod Life
+pub mod Unsent
 pub mod StandIns
 pub mod WrongAnswers
 pub mod Figures

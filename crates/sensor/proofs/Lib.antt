@@ -6,4 +6,5 @@ pub mod Answering
 pub mod Lawful
 pub mod Demand1
 pub mod Served
+pub mod SettingsKept
 pub mod RequestRows

@@ -1,23 +1,25 @@
 -- What the services of the table answer, and what no other part of the state becomes: each theorem by the one law of a service.
 use mathlib.Core.Path.{_≡_, refl, sym, ap, _∙_}
-use mathlib.Core.Logic.{_↔_}
-use mathlib.Core.Bool.{Bool, true, false, not}
+use mathlib.Core.Logic.{_↔_, _⊎_, inl, inr, ⊎-elim}
+use mathlib.Core.Bool.{Bool, true, false, not, _&&_, _||_}
 use mathlib.Core.List.{List, [], _∷_}
-use Prim.Native.Nat.{ℕ, suc}
+use Prim.Native.Nat.{ℕ, suc, _≤_, _<_}
 use native.Mathlib.Omega.{arith}
-use lib.Dec.{T, eqb}
+use lib.Dec.{T, leb, eqb, leb→le, eqb→eq}
 use lib.ListN.{length, getD, take}
 use borrow.Author.Tests.{eqb-true}
 use Rattle.words.specs.Choice.{if_then_else_}
-use Rattle.words.proofs.Tests.{and-l, is-true, holds}
+use Rattle.words.proofs.Tests.{and-l, and-r, is-true, holds}
 use Rattle.state.specs.declared.State.{State}
-use Rattle.state.specs.Fields.{withConfig}
+use Rattle.state.specs.Nav300.{reflector, withRotation, withReflector, rotationOk, thresholdOk, radiusOk}
+use Rattle.state.specs.Fields.{withConfig, withSettings}
 use Rattle.state.specs.Changes.{Part, onlyIn}
 use Rattle.state.specs.Ranges.{configOk}
 use Rattle.state.proofs.Parts.{parts}
 use Rattle.state.proofs.SameParts.{same-in}
 use Rattle.services.specs.Answers.{answer, noValue}
 use Rattle.services.specs.Configuration.{configItem, configTaken}
+use Rattle.services.specs.Nav300.{badValue, valueSaid}
 use Rattle.services.proofs.Lawful.{Responds}
 use Rattle.sensor.specs.declared.Service.{Service}
 use Rattle.sensor.specs.Table.{rowOf, response, serviceOf, outcomeOf, silent}
@@ -62,6 +64,33 @@ set-config-no s a b c d =
     by-one-word (configTaken a b c d) s (withConfig s b c d) _ a noValue
     (λ e z. (let i : a ≡ configItem = eqb-true a configItem (is-true (and-l (eqb a configItem) (configOk b c d) (holds e))) in omega arith))
 
+rotation-no : SaysNoBy Service.SetRotateDirection (badValue ∷ [])
+rotation-no s a b c d =
+    by-one-word (rotationOk a) s (withSettings s (withRotation (s .settings) a)) _ a badValue (λ e z. omega (arith, leb→le a 1 (holds e)))
+
+either : (x y : Bool) → T (x || y) → T x ⊎ T y
+either true y h = inl tt
+either false y h = inr h
+
+-- a value that is good is not the word for a bad one
+not-bad : (value most : ℕ) → value ≤ most → most < badValue → T (eqb value badValue) → ⊥
+not-bad value most h l e = omega (arith, eqb→eq value badValue e)
+
+reflector-no : (threshold radius : ℕ) → T (eqb threshold badValue || eqb radius badValue) → SaysNoBy Service.SetReflectorConfig (threshold ∷ radius ∷ [])
+reflector-no threshold radius bad s a b c d q =
+    go (thresholdOk a) (radiusOk b) refl refl (ap (λ (l : List ℕ). getD l 1 0) q) (ap (λ (l : List ℕ). getD l 2 0) q)
+  where
+    set : State
+    set = withSettings s (withReflector (s .settings) (reflector a b))
+
+    go : (x y : Bool) → thresholdOk a ≡ x → radiusOk b ≡ y → valueSaid x a ≡ threshold → valueSaid y b ≡ radius → (if x && y then set else s) ≡ s
+    go false y e f i j = refl
+    go true false e f i j = refl
+    go true true e f i j =
+        absurd
+        (⊎-elim (λ h. not-bad a 100 (leb→le a 100 (and-r (leb 1 a) (leb a 100) (holds e))) (omega arith) (rw i h))
+        (λ h. not-bad b 127 (leb→le b 127 (holds f)) (omega arith) (rw j h)) (either (eqb threshold badValue) (eqb radius badValue) bad))
+
 -- which service answered, by the first word
 code-is : (b : Bool) (code k : ℕ) (ws rest : List ℕ) → Responds b (response code) ws → ws ≡ response k ∷ rest → code ≡ k
 code-is true code k ws rest r q = absurd (let z : _≡_ {A = ℕ} (suc (length rest)) 0 = ap length (sym q ∙ r) in omega arith)
@@ -94,6 +123,8 @@ only-these s ws room =
           requested-by (λ x. x .reply .state ≡ onlyIn changes s (x .reply .state)) s ws room (λ _. same-in changes s)
           (λ e. outcome-fine s ws .only (parts s (served-so s ws e .0)));
       no-config = request-no Service.SetConfig (noValue ∷ []) set-config-no s ws room;
+      no-rotation = request-no Service.SetRotateDirection (badValue ∷ []) rotation-no s ws room;
+      no-reflector = λ a b bad. request-no Service.SetReflectorConfig (a ∷ b ∷ []) (reflector-no a b bad) s ws room;
     }
   where
     changes : List Part

@@ -1,8 +1,8 @@
--- What is promised of requests, as statements over the definitions above. The proofs stand in proofs/Demand1.antt and
--- proofs/Served.antt.
+-- What is promised of requests, as statements over the definitions above. The proofs stand in proofs/Demand1.antt, proofs/Served.antt and
+-- proofs/SettingsKept.antt.
 use mathlib.Core.Path.{_≡_}
 use mathlib.Core.Logic.{_↔_}
-use mathlib.Core.Bool.{Bool, not}
+use mathlib.Core.Bool.{Bool, not, _||_}
 use mathlib.Core.List.{List, [], _∷_}
 use Prim.Native.Nat.{ℕ, _≤_}
 use lib.Dec.{T, ltb, eqb}
@@ -14,6 +14,7 @@ use Rattle.state.specs.Changes.{onlyIn}
 use Rattle.state.specs.Ranges.{inRange}
 use Rattle.state.specs.Replies.{Unchanged}
 use Rattle.services.specs.Answers.{longest, noValue}
+use Rattle.services.specs.Nav300.{badValue}
 use Rattle.sensor.specs.declared.Service.{Service}
 use Rattle.sensor.specs.Table.{rowOf, response, services, serviceOf, allowed, outcomeOf, isListed, silent}
 use Rattle.sensor.specs.Requests.{outcome, requestOf}
@@ -64,10 +65,26 @@ abbrev pub TableHolds : Type 0
 TableHolds = (v : Service) → T (isListed v) → Tabled v
 
 -- What a request changes: the parts of the state that the row of its service names, and nothing else; and nothing where SET_CONFIG is
--- answered no value (rule 4.4)
+-- answered no value, or a value of SET_ROTATE_DIRECTION or SET_REFLECTOR_CONFIG is answered as bad (rules 4.4, 4.6, 4.19 and 4.20)
 pub record Stays (s : State) (ws : List ℕ) (room : ℕ) : Type 0 where
   pub only : requestOf s ws room .reply .state ≡ onlyIn (rowOf (serviceOf (getD ws 0 0)) .changes) s (requestOf s ws room .reply .state)
   pub no-config : requestOf s ws room .written ≡ response (rowOf Service.SetConfig .code) ∷ noValue ∷ [] → requestOf s ws room .reply .state ≡ s
+  pub no-rotation :
+      requestOf s ws room .written ≡ response (rowOf Service.SetRotateDirection .code) ∷ badValue ∷ [] → requestOf s ws room .reply .state ≡ s
+  pub no-reflector :
+      (threshold radius : ℕ) → T (eqb threshold badValue || eqb radius badValue)
+      → requestOf s ws room .written ≡ response (rowOf Service.SetReflectorConfig .code) ∷ threshold ∷ radius ∷ []
+      → requestOf s ws room .reply .state ≡ s
 
 abbrev pub OnlyThese : Type 0
 OnlyThese = (s : State) (ws : List ℕ) (room : ℕ) → Stays s ws room
+
+-- What keeps the settings of the NAV300: none but SET_ROTATE_DIRECTION changes the direction of rotation, none but SET_REFLECTOR_CONFIG and
+-- DO_RESET the working pair, none but SAVE_PERMANENT the stored one (rules 4.4, 4.12 and 4.19 to 4.22)
+pub record KeepsSettings (s t : State) (ws : List ℕ) : Type 0 where
+  pub rotation : T (asksNone ws (Service.SetRotateDirection ∷ [])) → t .settings .rotation ≡ s .settings .rotation
+  pub working : T (asksNone ws (Service.SetReflectorConfig ∷ Service.DoReset ∷ [])) → t .settings .working ≡ s .settings .working
+  pub stored : T (asksNone ws (Service.SavePermanent ∷ [])) → t .settings .stored ≡ s .settings .stored
+
+abbrev pub SettingsKept : Type 0
+SettingsKept = (s : State) (ws : List ℕ) (room : ℕ) → KeepsSettings s (requestOf s ws room .reply .state) ws

@@ -7,7 +7,7 @@ use Rattle.state.specs.Fresh.{freshState}
 use Rattle.services.specs.Answers.{longest}
 use Rattle.sensor.specs.Requests.{requestOf}
 
--- requests one after another, each into a buffer that every answer fits: the refusals, and the words behind each (rules 7.1 to 7.3)
+-- requests one after another, each into a buffer that every answer fits: the refusals, and the words behind each (rules 7.1 to 7.3 and 7.14)
 unfoldable pub dialogue : State → List (List ℕ) → List ℕ
 dialogue s [] = []
 dialogue s (ws ∷ rest) =
@@ -31,6 +31,16 @@ rotated speed = 0x0403 ∷ speed ∷ []
 
 abbrev measured : List ℕ
 measured = 0x0404 ∷ []
+
+-- GET_ROTATE_DIRECTION, GET_REFLECTOR_CONFIG and SET_REFLECTOR_CONFIG (rules 4.19 to 4.21)
+abbrev rotation : List ℕ
+rotation = 0x1211 ∷ []
+
+abbrev reflector : List ℕ
+reflector = 0x1212 ∷ []
+
+abbrev reflectorTo : ℕ → ℕ → List ℕ
+reflectorTo threshold radius = 0x1202 ∷ threshold ∷ radius ∷ []
 
 abbrev pub requestRows : List Row
 requestRows =
@@ -92,6 +102,35 @@ requestRows =
     ∷ record {
       value = dialogue freshState ((0x0102 ∷ []) ∷ measured ∷ rotated 0 ∷ measured ∷ [] ∷ []);
       figure = 0 ∷ 0x8102 ∷ 0 ∷ 1 ∷ 5 ∷ 0 ∷ 0x8403 ∷ 0 ∷ 2 ∷ 0 ∷ 0x8404 ∷ 0 ∷ 3 ∷ 0 ∷ 2 ∷ [];
+    }
+    -- the settings of the NAV300: set, saved, refused, set again and taken back by a reset (rule 7.14)
+    ∷ record {
+      value =
+          dialogue freshState
+          (rotation
+          ∷ reflector
+          ∷ reflectorTo 80 40
+          ∷ (0x1701 ∷ [])
+          ∷ reflectorTo 30 128
+          ∷ reflector
+          ∷ reflectorTo 30 127
+          ∷ (0x1201 ∷ 0 ∷ [])
+          ∷ (0x0401 ∷ 0 ∷ [])
+          ∷ reflector
+          ∷ rotation
+          ∷ []);
+      figure =
+          0 ∷ 0x9211 ∷ 1
+          ∷ 0 ∷ 0x9212 ∷ 50 ∷ 0
+          ∷ 0 ∷ 0x9202 ∷ 80 ∷ 40
+          ∷ 0 ∷ 0x9701 ∷ 0
+          ∷ 0 ∷ 0x9202 ∷ 30 ∷ 0xFF01
+          ∷ 0 ∷ 0x9212 ∷ 80 ∷ 40
+          ∷ 0 ∷ 0x9202 ∷ 30 ∷ 127
+          ∷ 0 ∷ 0x9201 ∷ 0
+          ∷ 0 ∷ 0x8401 ∷ 0
+          ∷ 0 ∷ 0x9212 ∷ 80 ∷ 40
+          ∷ 0 ∷ 0x9211 ∷ 0 ∷ [];
     }
     ∷ []
 
