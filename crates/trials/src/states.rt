@@ -5,12 +5,16 @@ use flat::plan_of;
 use plan::Plan;
 use state::Job;
 use state::Mode;
+use state::Reflector;
+use state::Settings;
 use state::State;
 use units::Angle;
+use units::Millimetres;
+use units::Percent;
 use words::word_at;
 
 // How many words a state has.
-pub(crate) const STATE_WORDS: usize = 43;
+pub(crate) const STATE_WORDS: usize = 48;
 
 // The mode of a word.
 fn mode_of(w: u16) -> Mode {
@@ -27,6 +31,25 @@ fn job_of(kind: u16, left: u16, mask: u16, sent: u16) -> Job {
         0 => Job::Absent,
         1 => Job::Counted { left, mask, sent },
         _ => Job::Endless { mask, sent },
+    }
+}
+
+// The pair of two words.
+fn reflector_of(threshold: u16, radius: u16) -> Reflector {
+    Reflector {
+        threshold: Percent(threshold),
+        radius: Millimetres(radius),
+    }
+}
+
+// The settings at the front of the words.
+fn settings_of(words: &[u16]) -> Settings {
+    let working = reflector_of(word_at(words, 1), word_at(words, 2));
+    let stored = reflector_of(word_at(words, 3), word_at(words, 4));
+    Settings {
+        rotation: word_at(words, 0),
+        working,
+        stored,
     }
 }
 
@@ -50,7 +73,8 @@ pub(crate) fn state_of(words: &[u16]) -> State {
     );
     let driven = state::with_drive(planned, mode, word_at(words, 36), job);
     let port = (word_at(words, 37) % 256) as u8;
-    state::with_counter(state::with_port(driven, port), word_at(words, 38))
+    let counted = state::with_counter(state::with_port(driven, port), word_at(words, 38));
+    state::with_settings(counted, settings_of(rest(words, 43)))
 }
 
 // A plan's 16 words.
@@ -88,12 +112,30 @@ fn put_job(out: &mut [u16], at: usize, job: Job) -> usize {
     }
 }
 
+// A pair's two words.
+fn put_reflector(out: &mut [u16], at: usize, reflector: Reflector) -> usize {
+    let threshold = reflector.threshold;
+    let radius = reflector.radius;
+    let next = put(out, at, threshold.0);
+    put(out, next, radius.0)
+}
+
+// The five words of the settings.
+fn put_settings(out: &mut [u16], at: usize, settings: Settings) -> usize {
+    let working = settings.working;
+    let stored = settings.stored;
+    let mut next = put(out, at, settings.rotation);
+    next = put_reflector(out, next, working);
+    put_reflector(out, next, stored)
+}
+
 // A state's words.
 pub(crate) fn put_state(out: &mut [u16], at: usize, state: State) -> usize {
     let working = state.working;
     let stored = state.stored;
     let mode = state.mode;
     let job = state.job;
+    let settings = state.settings;
     let shown = state::mode_number(mode);
     let mut next = put_three(out, at, state.id, state.speed, state.step.0);
     next = put_plan(out, next, working);
@@ -106,5 +148,6 @@ pub(crate) fn put_state(out: &mut [u16], at: usize, state: State) -> usize {
         state.port as u16,
         state.counter,
     );
-    put_job(out, next, job)
+    next = put_job(out, next, job);
+    put_settings(out, next, settings)
 }
