@@ -42,7 +42,8 @@ adds-filled : tie.Need-add-filled Inv-loop μ-loop
 adds-filled c =
     let a = c .before .before .before .before .before .before .before in
     let l = a .before .before .before .before .before in
-    omega (arith, within a .said, l .loop .inv .2)
+    let s = l .before .before .before in
+    omega (arith, within a .said, l .loop .inv .2, s .good .1 .1 .0)
 
 less : tie.Need-loop-less Inv-loop μ-loop
 less c =
