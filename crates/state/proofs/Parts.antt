@@ -50,16 +50,16 @@ with-alone p h =
 
 -- The stored plan and the settings, and the fields that stand alone where the plan is another.
 pub stored-of : (s : State) → Parts s → T (planInRange (s .stored))
-stored-of s p = and-l (planInRange (s .stored)) (settingsOk (s .settings)) (p .alone)
+stored-of s p = let h = p .alone in search (and-l, and-r)
 
 settings-ok : (s : State) → Parts s → T (settingsOk (s .settings))
-settings-ok s p = and-r (planInRange (s .stored)) (settingsOk (s .settings)) (p .alone)
+settings-ok s p = let h = p .alone in search (and-l, and-r)
 
 pub settings-of : (s : State) → Parts s → InRanges (s .settings)
 settings-of s p = settings-parts (s .settings) (settings-ok s p)
 
 stored-set : (s : State) → Parts s → (w t : Plan) → T (planInRange t) → T (aloneOk (withPlans s w t))
-stored-set s p w t b = and-both (planInRange t) (settingsOk (s .settings)) b (settings-ok s p)
+stored-set s p w t b = search (and-both, b, settings-ok s p)
 
 -- What is asked where some fields are set: the others are in their ranges as before. A new field that stands alone changes the laws above,
 -- and none below but its own.
@@ -85,4 +85,4 @@ module _ (s : State) (p : Parts s) where
   counter-set counter = with-alone p (p .alone)
 
   pub settings-set : (n : Settings) → InRanges n → Parts (withSettings s n)
-  settings-set n h = with-alone p (and-both (planInRange (s .stored)) (settingsOk n) (stored-of s p) (settings-whole n h))
+  settings-set n h = with-alone p (search (and-both, stored-of s p, settings-whole n h))
