@@ -99,9 +99,9 @@ impl Counts {
         }
         let [head, sectors, senstat] = [1, 2, 3].map(|part| self.parts_of_15.get(&part).copied().unwrap_or(0));
         text += &format!("places of 15: head {head}, sectors {sectors}, SENSTAT {senstat}\n");
-        text += "\nserved requests         IDLE  ROTATE MEASURE\n";
+        text += "\nserved requests              IDLE  ROTATE MEASURE\n";
         for service in &services::TABLE {
-            text += &format!("{:04X} {:15}", service.code, service.name);
+            text += &format!("{:04X} {:20}", service.code, service.name);
             for mode in [Mode::Idle, Mode::Rotate, Mode::Measure] {
                 let number = mode_number(mode);
                 if service.modes.contains(&mode) {

@@ -3,7 +3,7 @@
 
 use crate::plan::{Plan, Sector};
 use crate::reader::{EarlyEnd, Part, Reading};
-use crate::state::{Job, Mode, State};
+use crate::state::{Job, Mode, ReflectorConfig, Settings, State};
 
 /// A DWORD and a word go high part first; an odd byte at the end is no word.
 pub fn words_of_bytes(bytes: &[u8]) -> Vec<u16> {
@@ -83,7 +83,22 @@ impl<'a> CaseWords<'a> {
         ListGiven { length, first, rise }.words()
     }
 
-    /// "A state is 43 words"
+    fn reflector_config(&mut self) -> ReflectorConfig {
+        let threshold = self.word();
+        let radius = self.word();
+        ReflectorConfig { threshold, radius }
+    }
+
+    /// The last words of a state: "the direction of rotation, the working threshold, the working radius, the stored
+    /// threshold and the stored radius".
+    fn settings(&mut self) -> Settings {
+        let rotate_direction = self.word();
+        let working = self.reflector_config();
+        let stored = self.reflector_config();
+        Settings { rotate_direction, working, stored }
+    }
+
+    /// "A state is 48 words"
     pub fn state(&mut self) -> State {
         let id = self.word();
         let configured_speed = self.word();
@@ -110,7 +125,20 @@ impl<'a> CaseWords<'a> {
             1 => Job::Counted { left, mask, sent },
             _ => Job::Endless { mask, sent },
         };
-        State { id, configured_speed, step, working_plan, stored_plan, mode, running_speed, port, counter, job }
+        let settings = self.settings();
+        State {
+            id,
+            configured_speed,
+            step,
+            working_plan,
+            stored_plan,
+            mode,
+            running_speed,
+            port,
+            counter,
+            job,
+            settings,
+        }
     }
 }
 
@@ -154,6 +182,8 @@ pub fn state_words(state: &State) -> Vec<u16> {
         Job::Counted { left, mask, sent } => [1, left, mask, sent],
         Job::Endless { mask, sent } => [2, 0, mask, sent],
     });
+    let Settings { rotate_direction, working, stored } = state.settings;
+    words.extend([rotate_direction, working.threshold, working.radius, stored.threshold, stored.radius]);
     words
 }
 

@@ -37,7 +37,7 @@ fn buffer_for(random: &mut Random, answer: usize) -> ListGiven {
 
 fn request_case(random: &mut Random) -> Vec<u16> {
     // those with the most rules more often
-    let service = &services::TABLE[random.weighted(&[2, 2, 2, 4, 2, 4, 2, 4, 2, 3, 2, 3, 6])];
+    let service = &services::TABLE[random.weighted(&[2, 2, 2, 4, 2, 4, 2, 4, 2, 3, 2, 3, 6, 3, 5, 1, 2, 3])];
     let mode = if service.code == services::TRANS_MEASURE && random.percent(60) {
         Mode::Rotate
     } else if random.percent(85) {

@@ -24,11 +24,14 @@ mod stored_readings;
 mod stored_requests;
 mod stored_revolutions;
 mod stored_samples;
+mod stored_settings;
 mod stored_states;
 mod stored_times;
 mod talk;
 #[cfg(test)]
 mod tests;
+#[cfg(test)]
+mod tests_settings;
 mod trial;
 
 use std::io::{self, BufWriter, Read, Write};

@@ -1,4 +1,4 @@
-// Random requests for fresh cases and talks: the thirteen services with sensible words and with words at the edges, and
+// Random requests for fresh cases and talks: the eighteen services with sensible words and with words at the edges, and
 // requests that are wrong in their code or in their number of words.
 
 use crate::plan::Plan;
@@ -7,9 +7,9 @@ use crate::random_plans;
 use crate::random_states;
 use crate::services::{self, Service};
 
-const EDGES: [u16; 30] = [
-    0, 1, 2, 3, 4, 5, 6, 7, 8, 9, 16, 20, 21, 64, 72, 253, 254, 255, 256, 257, 5752, 5758, 5759, 5760, 5761, 11520,
-    32767, 32768, 65534, 65535,
+const EDGES: [u16; 36] = [
+    0, 1, 2, 3, 4, 5, 6, 7, 8, 9, 16, 20, 21, 64, 72, 100, 101, 126, 127, 128, 253, 254, 255, 256, 257, 5752, 5758,
+    5759, 5760, 5761, 11520, 32767, 32768, 0xFF01, 65534, 65535,
 ];
 
 /// A word at an edge, an angle step, the item of the configuration, or any word.
@@ -39,6 +39,36 @@ fn asked_mask(random: &mut Random) -> u16 {
         3 => 1 << random.below(16),
         4 => 0xFFFF,
         _ => random_states::job_mask(random),
+    }
+}
+
+/// A direction for SET_ROTATE_DIRECTION; one of three is none.
+fn asked_rotate_direction(random: &mut Random) -> u16 {
+    let any = random.word();
+    if random.percent(67) {
+        random.pick(&[0, 1])
+    } else {
+        random.pick(&[2, 255, 256, 257, 0xFF01, 65535, any])
+    }
+}
+
+/// A threshold for SET_REFLECTOR_CONFIG. It and the radius are out of range so often that one of three requests has
+/// such a value: most of these have one, some two.
+fn asked_threshold(random: &mut Random) -> u16 {
+    let any = random.word();
+    if random.percent(80) {
+        random_states::any_threshold(random)
+    } else {
+        random.pick(&[0, 101, 256, 306, 0xFF01, 65535, any])
+    }
+}
+
+fn asked_radius(random: &mut Random) -> u16 {
+    let any = random.word();
+    if random.percent(80) {
+        random_states::any_radius(random)
+    } else {
+        random.pick(&[128, 255, 256, 0xFF01, 65535, any])
     }
 }
 
@@ -91,6 +121,8 @@ pub fn good_words(random: &mut Random, service: &Service) -> Vec<u16> {
             let any = edge_word(random);
             words.push(random.pick(&[0, speed, speed, 1, 4, 5, 20, 21, any]));
         }
+        services::SET_ROTATE_DIRECTION => words.push(asked_rotate_direction(random)),
+        services::SET_REFLECTOR_CONFIG => words.extend([asked_threshold(random), asked_radius(random)]),
         _ => {}
     }
     words
@@ -124,6 +156,8 @@ pub fn code_beside(random: &mut Random, code: u16) -> u16 {
         code.swap_bytes(),
         code & 0x00FF,
         code & 0xFF00,
+        // the other one of 0201h and 1201h, and of 0202h and 1202h
+        code ^ 0x1000,
         0,
         65535,
         any,

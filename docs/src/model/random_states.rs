@@ -4,7 +4,7 @@
 use crate::plan::{self, Plan};
 use crate::random::Random;
 use crate::random_plans;
-use crate::state::{Job, Mode, State};
+use crate::state::{Job, Mode, ReflectorConfig, Settings, State};
 
 /// A mask that a job can have.
 pub fn job_mask(random: &mut Random) -> u16 {
@@ -63,6 +63,29 @@ fn any_speed(random: &mut Random) -> u16 {
     random.pick(&[5, 20, any, any])
 }
 
+/// A threshold in its range, at an edge often.
+pub fn any_threshold(random: &mut Random) -> u16 {
+    let any = random.between(1, 100);
+    random.pick(&[1, 2, 50, 99, 100, any, any, any])
+}
+
+/// A radius in its range, at an edge often.
+pub fn any_radius(random: &mut Random) -> u16 {
+    let any = random.between(0, 127);
+    random.pick(&[0, 1, 126, 127, any, any, any])
+}
+
+fn reflector_config(random: &mut Random) -> ReflectorConfig {
+    ReflectorConfig { threshold: any_threshold(random), radius: any_radius(random) }
+}
+
+/// Settings in their ranges; what works and what is stored differ most of the time.
+pub fn settings_in_ranges(random: &mut Random) -> Settings {
+    let working = reflector_config(random);
+    let stored = if random.percent(15) { working } else { reflector_config(random) };
+    Settings { rotate_direction: random.pick(&[0, 1]), working, stored }
+}
+
 /// A state in its ranges, in this mode, with this step, speed and plan. The speed is left out in IDLE.
 fn state_around(random: &mut Random, mode: Mode, step: u16, running_speed: u16, working_plan: Plan) -> State {
     let any_id = random.between(1, 254);
@@ -78,6 +101,7 @@ fn state_around(random: &mut Random, mode: Mode, step: u16, running_speed: u16, 
         port: random.word() as u8,
         counter: random.pick(&[0, 1, 65534, 65535, any_word, any_word]),
         job: if mode == Mode::Measure { job(random) } else { Job::Absent },
+        settings: settings_in_ranges(random),
     }
 }
 
@@ -124,10 +148,10 @@ pub fn largest_state(random: &mut Random) -> State {
     state
 }
 
-/// Sets one of the 43 words of a state to an edge of its range, or just outside of it.
+/// Sets one of the 48 words of a state to an edge of its range, or just outside of it.
 pub fn damage_state_words(random: &mut Random, words: &mut [u16]) {
-    // each of the eleven kinds of fields as often as the others
-    let place = match random.below(11) {
+    // each of the twelve kinds of fields as often as the others
+    let place = match random.below(12) {
         0 => 0,
         1 => 1,
         2 => 2,
@@ -138,7 +162,8 @@ pub fn damage_state_words(random: &mut Random, words: &mut [u16]) {
         7 => 35,
         8 => 36,
         9 => 37 + random.below(2),
-        _ => 39 + random.below(4),
+        10 => 39 + random.below(4),
+        _ => 43 + random.below(5),
     };
     let old = words[place];
     words[place] = match place {
@@ -157,6 +182,10 @@ pub fn damage_state_words(random: &mut Random, words: &mut [u16]) {
         40 => random.pick(&[0, 0, 1, 65535, old.wrapping_add(1)]),
         41 => random.pick(&[0, 0x4000, 0x8000, 0xC000, 0xFFFF, old | 0x4000, old | 0x8000, 1]),
         42 => random.pick(&[0, 65534, 65535, old.wrapping_add(1)]),
+        // direction of rotation, thresholds, radii
+        43 => random.pick(&[0, 1, 2, 2, 255, 256, 257, 0xFF01, 65535]),
+        44 | 46 => random.pick(&[0, 0, 1, 100, 101, 101, 256, 306, 0xFF01, 65535]),
+        45 | 47 => random.pick(&[0, 127, 128, 128, 255, 256, 0xFF01, 65535]),
         // function of a sector
         _ if place % 2 == 1 => random.pick(&[0, 1, 2, 3, 4, 5, 2, 5, 255, 259, 65535]),
         // stop of a sector

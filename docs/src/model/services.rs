@@ -1,9 +1,9 @@
-// Rules, section 4: the table of the 13 services, what each does and answers, and refusals 1 to 6 of a request.
+// Rules, section 4: the table of the 18 services, what each does and answers, and refusals 1 to 6 of a request.
 
 use crate::measure_checks;
 use crate::plan;
 use crate::plan::Sector;
-use crate::state::{self, Job, Mode, Outcome, State};
+use crate::state::{self, Job, Mode, Outcome, ReflectorConfig, State};
 
 pub const GET_STATUS: u16 = 0x0102;
 pub const GET_SIGNAL: u16 = 0x0104;
@@ -18,11 +18,19 @@ pub const DO_RESET: u16 = 0x0401;
 pub const TRANS_IDLE: u16 = 0x0402;
 pub const TRANS_ROTATE: u16 = 0x0403;
 pub const TRANS_MEASURE: u16 = 0x0404;
+pub const SET_ROTATE_DIRECTION: u16 = 0x1201;
+pub const SET_REFLECTOR_CONFIG: u16 = 0x1202;
+pub const GET_ROTATE_DIRECTION: u16 = 0x1211;
+pub const GET_REFLECTOR_CONFIG: u16 = 0x1212;
+pub const SAVE_PERMANENT: u16 = 0x1701;
 
 /// The one item of SET_CONFIG and GET_CONFIG.
 pub const CONFIG_ITEM: u16 = 0x0010;
 
 const NO_SUCH: u16 = 0xFFFF;
+
+/// What stands in the place of a setting that is out of its range (rules 4.19 and 4.20).
+const OUT_OF_RANGE: u16 = 0xFF01;
 
 pub struct Service {
     pub name: &'static str,
@@ -37,7 +45,7 @@ const IDLE_ROTATE: &[Mode] = &[Mode::Idle, Mode::Rotate];
 const ROTATE_MEASURE: &[Mode] = &[Mode::Rotate, Mode::Measure];
 const MEASURE: &[Mode] = &[Mode::Measure];
 
-pub const TABLE: [Service; 13] = [
+pub const TABLE: [Service; 18] = [
     Service { name: "GET_STATUS", code: GET_STATUS, words_in: 1, modes: ALL },
     Service { name: "GET_SIGNAL", code: GET_SIGNAL, words_in: 1, modes: ALL },
     Service { name: "SET_SIGNAL", code: SET_SIGNAL, words_in: 2, modes: ALL },
@@ -51,6 +59,11 @@ pub const TABLE: [Service; 13] = [
     Service { name: "TRANS_IDLE", code: TRANS_IDLE, words_in: 1, modes: ALL },
     Service { name: "TRANS_ROTATE", code: TRANS_ROTATE, words_in: 2, modes: ALL },
     Service { name: "TRANS_MEASURE", code: TRANS_MEASURE, words_in: 1, modes: ROTATE_MEASURE },
+    Service { name: "SET_ROTATE_DIRECTION", code: SET_ROTATE_DIRECTION, words_in: 2, modes: IDLE_ROTATE },
+    Service { name: "SET_REFLECTOR_CONFIG", code: SET_REFLECTOR_CONFIG, words_in: 3, modes: IDLE_ROTATE },
+    Service { name: "GET_ROTATE_DIRECTION", code: GET_ROTATE_DIRECTION, words_in: 1, modes: ALL },
+    Service { name: "GET_REFLECTOR_CONFIG", code: GET_REFLECTOR_CONFIG, words_in: 1, modes: ALL },
+    Service { name: "SAVE_PERMANENT", code: SAVE_PERMANENT, words_in: 1, modes: IDLE_ROTATE },
 ];
 
 pub fn service_of(code: u16) -> Option<&'static Service> {
@@ -125,6 +138,15 @@ fn serve(state: &mut State, words: &[u16]) -> Vec<u16> {
             answer.extend(state.senstat());
             answer.push(error);
         }
+        SET_ROTATE_DIRECTION => answer.push(set_rotate_direction(state, words[1])),
+        SET_REFLECTOR_CONFIG => answer.extend(set_reflector_config(state, words[1], words[2])),
+        GET_ROTATE_DIRECTION => answer.push(state.settings.rotate_direction),
+        GET_REFLECTOR_CONFIG => answer.extend(get_reflector_config(state)),
+        SAVE_PERMANENT => {
+            // rule 4.22
+            state.settings.stored = state.settings.working;
+            answer.push(0);
+        }
         _ => unreachable!("the code is in the table"),
     }
     answer
@@ -196,6 +218,7 @@ fn reset(state: &mut State, level: u16) {
             state.mode = Mode::Idle;
             state.running_speed = 0;
             state.working_plan = state.stored_plan;
+            state.settings.working = state.settings.stored;
             state.port = 0;
             state.counter = 0;
             state.job = Job::Absent;
@@ -236,4 +259,31 @@ fn go_measure(state: &mut State) -> u16 {
         state.mode = Mode::Measure;
     }
     error
+}
+
+/// Rule 4.19.
+fn set_rotate_direction(state: &mut State, direction: u16) -> u16 {
+    if !state::rotate_direction_in_range(direction) {
+        return OUT_OF_RANGE;
+    }
+    state.settings.rotate_direction = direction;
+    direction
+}
+
+/// Rule 4.20.
+fn set_reflector_config(state: &mut State, threshold: u16, radius: u16) -> [u16; 2] {
+    let threshold_fits = state::threshold_in_range(threshold);
+    let radius_fits = state::radius_in_range(radius);
+    if threshold_fits && radius_fits {
+        state.settings.working = ReflectorConfig { threshold, radius };
+    }
+    let threshold_answered = if threshold_fits { threshold } else { OUT_OF_RANGE };
+    let radius_answered = if radius_fits { radius } else { OUT_OF_RANGE };
+    [threshold_answered, radius_answered]
+}
+
+/// Rule 4.21.
+fn get_reflector_config(state: &State) -> [u16; 2] {
+    let working = state.settings.working;
+    [working.threshold, working.radius]
 }

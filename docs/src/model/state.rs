@@ -18,6 +18,21 @@ pub enum Job {
     Endless { mask: u16, sent: u16 },
 }
 
+/// What tells reflectors from other things (rule 2.10): the threshold in percent, the radius in millimetres.
+#[derive(Clone, Copy, PartialEq, Eq, Debug)]
+pub struct ReflectorConfig {
+    pub threshold: u16,
+    pub radius: u16,
+}
+
+/// The settings of the NAV300 (rule 2.10).
+#[derive(Clone, Copy, PartialEq, Eq, Debug)]
+pub struct Settings {
+    pub rotate_direction: u16,
+    pub working: ReflectorConfig,
+    pub stored: ReflectorConfig,
+}
+
 #[derive(Clone, Copy, PartialEq, Eq, Debug)]
 pub struct State {
     pub id: u16,
@@ -30,6 +45,7 @@ pub struct State {
     pub port: u8,
     pub counter: u16,
     pub job: Job,
+    pub settings: Settings,
 }
 
 /// What request and revolution hand back: the refusal (0 for none), the count of words written, the next state.
@@ -66,11 +82,39 @@ fn job_mask_in_range(mask: u16) -> bool {
     mask != 0 && mask & 0xC000 == 0
 }
 
+/// Rule 2.10, and so thresholds and radii below.
+pub fn rotate_direction_in_range(direction: u16) -> bool {
+    direction <= 1
+}
+
+pub fn threshold_in_range(threshold: u16) -> bool {
+    (1..=100).contains(&threshold)
+}
+
+pub fn radius_in_range(radius: u16) -> bool {
+    radius <= 127
+}
+
+impl ReflectorConfig {
+    /// Rule 2.10.
+    fn in_ranges(&self) -> bool {
+        threshold_in_range(self.threshold) && radius_in_range(self.radius)
+    }
+}
+
+impl Settings {
+    /// Rule 2.10.
+    fn in_ranges(&self) -> bool {
+        rotate_direction_in_range(self.rotate_direction) && self.working.in_ranges() && self.stored.in_ranges()
+    }
+}
+
 impl State {
     /// A sensor that was just switched on (rule 2.9).
     pub fn fresh() -> State {
         let mut plan = plan::PLAN_OF_ZEROS;
         plan[0] = Sector { function: 3, stop: 5752 };
+        let reflectors = ReflectorConfig { threshold: 50, radius: 0 };
         State {
             id: 1,
             configured_speed: 10,
@@ -82,6 +126,7 @@ impl State {
             port: 0,
             counter: 0,
             job: Job::Absent,
+            settings: Settings { rotate_direction: 1, working: reflectors, stored: reflectors },
         }
     }
 
@@ -95,6 +140,7 @@ impl State {
             && self.running_speed_in_range()
             && self.measures_only_what_passes()
             && self.job_in_range()
+            && self.settings.in_ranges()
     }
 
     /// Rule 2.4.

@@ -8,6 +8,7 @@ use crate::stored_readings;
 use crate::stored_requests;
 use crate::stored_revolutions;
 use crate::stored_samples::{buffer, idle, plan_of};
+use crate::stored_settings;
 use crate::stored_times;
 
 /// Cases that lack words or have some too many, and kinds that there are not.
@@ -18,7 +19,7 @@ fn cases_of_the_format() -> Vec<Vec<u16>> {
         cases.push(vec![kind, 1]);
     }
     let state = format::state_words(&idle());
-    for length in [1, 2, 3, 4, 19, 35, 36, 37] {
+    for length in [1, 2, 3, 4, 19, 35, 36, 37, 43, 44, 45, 46, 47, 48] {
         let mut case = vec![1];
         case.extend(&state[..length]);
         cases.push(case);
@@ -46,6 +47,7 @@ pub fn input() -> Vec<u8> {
         stored_readings::cases(),
         stored_revolutions::cases(),
         stored_times::cases(),
+        stored_settings::cases(),
         cases_of_the_format(),
     ];
     for case in topics.iter().flatten() {

@@ -10,15 +10,16 @@ use crate::state::{Job, Mode, State};
 use crate::stored_samples::*;
 use crate::stored_states;
 
-const ROOM: usize = 6;
+/// More than every answer has.
+pub const ROOM: usize = 6;
 
 type Cases = Vec<Vec<u16>>;
 
-fn ask(cases: &mut Cases, state: &State, words: &[u16]) {
+pub fn ask(cases: &mut Cases, state: &State, words: &[u16]) {
     cases.push(case_parts::request_case(&format::state_words(state), buffer(ROOM), words));
 }
 
-fn ask_in_all(cases: &mut Cases, states: &[State], words: &[u16]) {
+pub fn ask_in_all(cases: &mut Cases, states: &[State], words: &[u16]) {
     for state in states {
         ask(cases, state, words);
     }
@@ -35,6 +36,8 @@ fn working_words(code: u16) -> Vec<u16> {
         GET_PROFILE => vec![code, 5, 0x0120],
         DO_RESET => vec![code, 1],
         TRANS_ROTATE => vec![code, 15],
+        SET_ROTATE_DIRECTION => vec![code, 1],
+        SET_REFLECTOR_CONFIG => vec![code, 88, 19],
         _ => vec![code],
     }
 }
@@ -252,7 +255,7 @@ fn counts_and_codes(cases: &mut Cases) {
             }
         }
         let code = service.code;
-        for other in [code + 1, code - 1, code + 0x8000, code.swap_bytes()] {
+        for other in [code + 1, code - 1, code + 0x8000, code.swap_bytes(), code ^ 0x1000] {
             if services::service_of(other).is_none() {
                 let mut words = working_words(service.code);
                 words[0] = other;
@@ -285,6 +288,10 @@ fn buffers(cases: &mut Cases) {
     asked.push((measure(ENDLESS_SAMPLE), vec![GET_PROFILE, 1, 0xC000]));
     asked.push((measure(ENDLESS_SAMPLE), vec![DO_RESET, 2]));
     asked.push((rotating(10, 10, State::fresh().working_plan), vec![TRANS_MEASURE]));
+    asked.push((idle(), vec![SET_ROTATE_DIRECTION, 2]));
+    asked.push((idle(), vec![SET_REFLECTOR_CONFIG, 101, 19]));
+    asked.push((idle(), vec![SET_REFLECTOR_CONFIG, 88, 128]));
+    asked.push((idle(), vec![SET_REFLECTOR_CONFIG, 0, 128]));
     for (state, words) in asked {
         let answer = services::request(&state, &words, &mut [0; ROOM]).count;
         let mut lengths = vec![0, answer.saturating_sub(1), answer, answer + 1, answer + 9];
@@ -297,9 +304,10 @@ fn buffers(cases: &mut Cases) {
 
 /// Refusals 1 to 6, alone and with each other one that can apply as well.
 fn refusals_together(cases: &mut Cases) {
-    let services: [(State, State, Vec<u16>); 2] = [
+    let services: [(State, State, Vec<u16>); 3] = [
         (idle(), rotate(), vec![SET_CONFIG, 0x0010, 9, 19, 10]),
         (measure(COUNTED_SAMPLE), idle(), vec![GET_PROFILE, 2, 0x8000]),
+        (idle(), measure(COUNTED_SAMPLE), vec![SET_REFLECTOR_CONFIG, 101, 128]),
     ];
     for (fitting, other, words) in services {
         let mut unknown = words.clone();

@@ -13,9 +13,9 @@ use crate::trial::{self, Turn};
 type Cases = Vec<Vec<u16>>;
 
 /// A start time from which some of the times of a revolution pass the wrap.
-const NEAR_WRAP: u16 = 65500;
+pub const NEAR_WRAP: u16 = 65500;
 
-fn turn_of(shots: usize, start_time: u16, room: usize) -> TurnGiven {
+pub fn turn_of(shots: usize, start_time: u16, room: usize) -> TurnGiven {
     TurnGiven { start_time, distances: distances(shots), echoes: echoes(shots), buffer: buffer(room) }
 }
 

@@ -2,7 +2,7 @@
 
 use crate::format::ListGiven;
 use crate::plan::{self, Plan, Sector};
-use crate::state::{Job, Mode, State};
+use crate::state::{Job, Mode, ReflectorConfig, Settings, State};
 
 /// A plan of these (function, stop) pairs, the rest 0/0.
 pub fn plan_of(sectors: &[(u16, u16)]) -> Plan {
@@ -25,6 +25,11 @@ pub fn stored_sample() -> Plan {
 pub const COUNTED_SAMPLE: Job = Job::Counted { left: 3, mask: 0x0121, sent: 7 };
 pub const ENDLESS_SAMPLE: Job = Job::Endless { mask: 0x3FFF, sent: 65535 };
 
+pub fn settings_of(rotate_direction: u16, working: (u16, u16), stored: (u16, u16)) -> Settings {
+    let config = |(threshold, radius): (u16, u16)| ReflectorConfig { threshold, radius };
+    Settings { rotate_direction, working: config(working), stored: config(stored) }
+}
+
 /// A state whose every part differs from the fresh one.
 pub fn state_in(mode: Mode, job: Job) -> State {
     State {
@@ -38,6 +43,7 @@ pub fn state_in(mode: Mode, job: Job) -> State {
         port: 0xA5,
         counter: 0x1234,
         job,
+        settings: settings_of(0, (73, 41), (26, 117)),
     }
 }
 

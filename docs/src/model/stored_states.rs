@@ -1,4 +1,4 @@
-// Rules 2.1 to 2.8: every field of a state at the edges of its range and just outside of them, alone, as
+// Rules 2.1 to 2.8 and 2.10: every field of a state at the edges of its range and just outside of them, alone, as
 // words of a state for the stored cases.
 
 use crate::format;
@@ -19,6 +19,11 @@ const JOB: usize = 39;
 const LEFT: usize = 40;
 const MASK: usize = 41;
 const SENT: usize = 42;
+const ROTATE_DIRECTION: usize = 43;
+const WORKING_THRESHOLD: usize = 44;
+const WORKING_RADIUS: usize = 45;
+const STORED_THRESHOLD: usize = 46;
+const STORED_RADIUS: usize = 47;
 
 /// The words of the state with one word set to each of the values in turn.
 fn with_each(state: &State, place: usize, values: &[u16]) -> Vec<Vec<u16>> {
@@ -77,6 +82,30 @@ pub fn mode_fields() -> Vec<Vec<u16>> {
         all[last][LEFT] = 65535;
         all[last][MASK] = 65535;
         all[last][SENT] = 65535;
+    }
+    all
+}
+
+/// The settings of the NAV300.
+pub fn settings_fields(state: &State) -> Vec<Vec<u16>> {
+    let mut all = with_each(state, ROTATE_DIRECTION, &[0, 1, 2, 256, 257, 65535]);
+    for threshold in [WORKING_THRESHOLD, STORED_THRESHOLD] {
+        all.extend(with_each(state, threshold, &[0, 1, 100, 101, 306, 65535]));
+    }
+    for radius in [WORKING_RADIUS, STORED_RADIUS] {
+        all.extend(with_each(state, radius, &[0, 127, 128, 256, 65535]));
+    }
+    all
+}
+
+/// The same just outside of their ranges.
+pub fn settings_just_outside(state: &State) -> Vec<Vec<u16>> {
+    let mut all = with_each(state, ROTATE_DIRECTION, &[2]);
+    for threshold in [WORKING_THRESHOLD, STORED_THRESHOLD] {
+        all.extend(with_each(state, threshold, &[0, 101]));
+    }
+    for radius in [WORKING_RADIUS, STORED_RADIUS] {
+        all.extend(with_each(state, radius, &[128]));
     }
     all
 }
