@@ -114,6 +114,7 @@ requestRows =
           ∷ reflectorTo 30 128
           ∷ reflector
           ∷ reflectorTo 30 127
+          ∷ reflector
           ∷ (0x1201 ∷ 0 ∷ [])
           ∷ (0x0401 ∷ 0 ∷ [])
           ∷ reflector
@@ -127,6 +128,7 @@ requestRows =
           ∷ 0 ∷ 0x9202 ∷ 30 ∷ 0xFF01
           ∷ 0 ∷ 0x9212 ∷ 80 ∷ 40
           ∷ 0 ∷ 0x9202 ∷ 30 ∷ 127
+          ∷ 0 ∷ 0x9212 ∷ 30 ∷ 127
           ∷ 0 ∷ 0x9201 ∷ 0
           ∷ 0 ∷ 0x8401 ∷ 0
           ∷ 0 ∷ 0x9212 ∷ 80 ∷ 40
