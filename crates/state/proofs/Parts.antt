@@ -9,7 +9,6 @@ use Rattle.state.specs.declared.State.{State}
 use Rattle.state.specs.declared.Mode.{Mode}
 use Rattle.state.specs.declared.Job.{Job}
 use Rattle.state.specs.declared.Settings.{Settings}
-use Rattle.state.specs.Nav300.{settingsOk}
 use Rattle.state.specs.Fields.{withConfig, withPlans, withDrive, withPort, withCounter, withSettings}
 use Rattle.state.specs.Ranges.{configOk, runningOk, checksOk, jobOk, aloneOk, inRange}
 use Rattle.state.proofs.SettingsParts.{InRanges, settings-parts, settings-whole}
@@ -52,17 +51,14 @@ with-alone p h =
 pub stored-of : (s : State) → Parts s → T (planInRange (s .stored))
 stored-of s p = let h = p .alone in search (and-l, and-r)
 
-settings-ok : (s : State) → Parts s → T (settingsOk (s .settings))
-settings-ok s p = let h = p .alone in search (and-l, and-r)
-
 pub settings-of : (s : State) → Parts s → InRanges (s .settings)
-settings-of s p = settings-parts (s .settings) (settings-ok s p)
+settings-of s p = let h = p .alone in settings-parts (s .settings) (search (and-l, and-r))
 
 stored-set : (s : State) → Parts s → (w t : Plan) → T (planInRange t) → T (aloneOk (withPlans s w t))
-stored-set s p w t b = search (and-both, b, settings-ok s p)
+stored-set s p w t b = let h = p .alone in search (and-both, and-l, and-r, b)
 
--- What is asked where some fields are set: the others are in their ranges as before. A new field that stands alone changes the laws above,
--- and none below but its own.
+-- What is asked where some fields are set: the others are in their ranges as before. The tests of fields that stand alone are found among
+-- those of before, so a new one changes no law here.
 module _ (s : State) (p : Parts s) where
   pub config-set : (id speed step : ℕ) → T (configOk id speed step) → T (checksOk (s .mode) (s .working) step (s .running))
       → Parts (withConfig s id speed step)
@@ -85,4 +81,4 @@ module _ (s : State) (p : Parts s) where
   counter-set counter = with-alone p (p .alone)
 
   pub settings-set : (n : Settings) → InRanges n → Parts (withSettings s n)
-  settings-set n h = with-alone p (search (and-both, stored-of s p, settings-whole n h))
+  settings-set n h = let a = p .alone in with-alone p (search (and-both, and-l, and-r, settings-whole n h))
