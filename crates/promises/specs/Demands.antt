@@ -3,7 +3,8 @@
 use Rattle.normal.specs.Demands.{Demand3 as NormalPlans, AnswersValid, RefusalsExactly as PlanNumbers, RefusalsGiveZeros}
 use Rattle.layout.specs.Lengths.{LayoutLength}
 use Rattle.plan.specs.Demands.{Tiling, Counting, Revolution}
-use Rattle.sensor.specs.Demands.{RefusalsExactly as RequestNumbers, RefusalsChangeNothing as RequestUnchanged, RoomForAll, TableHolds, OnlyThese, SettingsKept}
+use Rattle.sensor.specs.Demands.{RefusalsExactly as RequestNumbers, RefusalsChangeNothing as RequestUnchanged, RoomForAll}
+use Rattle.sensor.specs.Demands.{TableHolds, OnlyThese, SettingsKept}
 use Rattle.profile.specs.Demands.{RefusalsExactly as RevolutionNumbers, RefusalsChangeNothing as RevolutionUnchanged}
 use Rattle.profile.specs.Demands.{NearestTimes, SentLength, NeverLonger, PointsAreShots, AllPoints}
 use Rattle.reader.specs.Demands.{AcceptsExactly, PutTogether, ReadsBack, OneReading, NoPoints, StandsAtPlace}
@@ -44,7 +45,7 @@ pub record Demand2 : Type 0 where
   -- the table and its answers, and that a service changes no part of the state but its own
   pub tabled : TableHolds
   pub only-these : OnlyThese
-  -- which requests keep the settings of the NAV300; revolutions keep them, and do not depend on them
+  -- the settings of the NAV300: which requests leave them; revolutions do, and do not depend on them
   pub settings-kept : SettingsKept
   pub settings-unsent : SettingsUnsent
   -- a revolution: the directions and functions of its shots, how the sectors share them, and how many of them count

@@ -18,9 +18,10 @@ pub record Alike (n : Settings) (x y : Result) : Type 0 where
   pub refusal : y .reply .refusal ≡ x .reply .refusal
   pub state : y .reply .state ≡ withSettings (x .reply .state) n
 
+-- what a revolution does with the settings (rule 5.17)
 pub record SettingsUnsent : Type 0 where
-  -- of every state
+  -- it leaves those of every state
   pub kept : (s : State) (g : Scan) (room : ℕ) → revolutionOf s g room .reply .state .settings ≡ s .settings
-  -- of two states in their ranges that differ in the settings alone
+  -- it does the same with two states in their ranges that differ in the settings alone
   pub alike : (s t : State) (g : Scan) (room : ℕ) → T (inRange s) → T (inRange t) → t ≡ withSettings s (t .settings)
       → Alike (t .settings) (revolutionOf s g room) (revolutionOf t g room)

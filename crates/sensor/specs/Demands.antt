@@ -79,8 +79,9 @@ pub record Stays (s : State) (ws : List ℕ) (room : ℕ) : Type 0 where
 abbrev pub OnlyThese : Type 0
 OnlyThese = (s : State) (ws : List ℕ) (room : ℕ) → Stays s ws room
 
--- What keeps the settings of the NAV300: none but SET_ROTATE_DIRECTION changes the direction of rotation, none but SET_REFLECTOR_CONFIG and
--- DO_RESET the working pair, none but SAVE_PERMANENT the stored one (rules 4.4, 4.12 and 4.19 to 4.22)
+-- What a request leaves of the NAV300's settings, from a state to the one after it: the direction of rotation, where it is no
+-- SET_ROTATE_DIRECTION; the working pair, where it is neither SET_REFLECTOR_CONFIG nor DO_RESET; the stored pair, where it is no SAVE_PERMANENT
+-- (rules 4.4, 4.12 and 4.19 to 4.22)
 pub record KeepsSettings (s t : State) (ws : List ℕ) : Type 0 where
   pub rotation : T (asksNone ws (Service.SetRotateDirection ∷ [])) → t .settings .rotation ≡ s .settings .rotation
   pub working : T (asksNone ws (Service.SetReflectorConfig ∷ Service.DoReset ∷ [])) → t .settings .working ≡ s .settings .working

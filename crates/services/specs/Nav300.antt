@@ -9,26 +9,26 @@ use Rattle.state.specs.Fields.{withSettings}
 use Rattle.state.specs.Replies.{Outcome}
 use Rattle.services.specs.Answers.{answer}
 
--- what is answered in the place of a value that is out of its range; `BAD_VALUE` in the code (rule 4.19)
+-- what is answered in the place of a value that is out of its range; `BAD_VALUE` in the code (rules 4.19 and 4.20)
 abbrev pub badValue : ℕ
 badValue = 0xFF01
 
--- the direction is stored and answered where it is one, and else neither (rule 4.19)
+-- the direction of rotation is set and answered; a word that is none is answered as bad, and nothing is set (rule 4.19)
 abbrev pub setRotateDirection : State → ℕ → ℕ → Outcome
 setRotateDirection s code rotation =
     if rotationOk rotation
     then answer (withSettings s (withRotation (s .settings) rotation)) (code ∷ rotation ∷ [])
     else answer s (code ∷ badValue ∷ [])
 
--- direction (rule 4.19)
+-- direction of rotation (rule 4.19)
 abbrev pub getRotateDirection : State → ℕ → Outcome
 getRotateDirection s code = answer s (code ∷ s .settings .rotation ∷ [])
 
--- what stands in a value's own place of the answer (rule 4.20)
+-- what the answer has in a value's own place (rule 4.20)
 abbrev pub valueSaid : Bool → ℕ → ℕ
 valueSaid good value = if good then value else badValue
 
--- threshold and radius become the working ones where both are good; each is answered by itself (rule 4.20)
+-- threshold and radius become the working pair where both are good; each is answered in its own place (rule 4.20)
 abbrev pub setReflectorConfig : State → ℕ → ℕ → ℕ → Outcome
 setReflectorConfig s code threshold radius =
     answer
@@ -39,6 +39,6 @@ setReflectorConfig s code threshold radius =
 abbrev pub getReflectorConfig : State → ℕ → Outcome
 getReflectorConfig s code = answer s (code ∷ s .settings .working .threshold .0 ∷ s .settings .working .radius .0 ∷ [])
 
--- the working pair is stored; 0 (rule 4.22)
+-- the working pair becomes the stored one too; 0 (rule 4.22)
 abbrev pub savePermanent : State → ℕ → Outcome
 savePermanent s code = answer (withSettings s (saved (s .settings))) (code ∷ 0 ∷ [])

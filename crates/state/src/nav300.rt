@@ -6,7 +6,7 @@ use crate::Settings;
 use units::Millimetres;
 use units::Percent;
 
-// Anti-clockwise or clockwise.
+// 0, anti-clockwise, or 1, clockwise.
 pub fn rotation_ok(rotation: u16) -> bool
     ensures { λ r. ⌜ r ≡ rotationOk rotation ⌝ }
 {
@@ -39,6 +39,7 @@ fn reflector_ok(reflector: Reflector) -> bool
     threshold_ok(threshold) & radius_ok(radius)
 }
 
+// All of them.
 pub(crate) fn settings_ok(settings: Settings) -> bool
     ensures { λ r. ⌜ r ≡ settingsOk settings ⌝ }
 {
