@@ -76,14 +76,16 @@ either false y h = inr h
 not-bad : (value most : ℕ) → value ≤ most → most < badValue → T (eqb value badValue) → ⊥
 not-bad value most h l e = omega (arith, eqb→eq value badValue e)
 
-reflector-no : (threshold radius : ℕ) → T (eqb threshold badValue || eqb radius badValue) → SaysNoBy Service.SetReflectorConfig (threshold ∷ radius ∷ [])
+reflector-no : (threshold radius : ℕ) → T (eqb threshold badValue || eqb radius badValue)
+    → SaysNoBy Service.SetReflectorConfig (threshold ∷ radius ∷ [])
 reflector-no threshold radius bad s a b c d q =
     go (thresholdOk a) (radiusOk b) refl refl (ap (λ (l : List ℕ). getD l 1 0) q) (ap (λ (l : List ℕ). getD l 2 0) q)
   where
     set : State
     set = withSettings s (withReflector (s .settings) (reflector a b))
 
-    go : (x y : Bool) → thresholdOk a ≡ x → radiusOk b ≡ y → valueSaid x a ≡ threshold → valueSaid y b ≡ radius → (if x && y then set else s) ≡ s
+    go : (x y : Bool) → thresholdOk a ≡ x → radiusOk b ≡ y → valueSaid x a ≡ threshold → valueSaid y b ≡ radius
+        → (if x && y then set else s) ≡ s
     go false y e f i j = refl
     go true false e f i j = refl
     go true true e f i j =
