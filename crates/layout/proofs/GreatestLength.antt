@@ -13,7 +13,7 @@ use Rattle.layout.specs.Masks.{pointWidth}
 use Rattle.layout.specs.Lengths.{profileLength, Greatest}
 
 -- no more pass a test than there are
-count-most : {A : Type 0} (test : A → Bool) (l : List A) → count test l ≤ length l
+pub count-most : {A : Type 0} (test : A → Bool) (l : List A) → count test l ≤ length l
 count-most test [] = omega arith
 count-most test (x ∷ xs) = go (test x) (count-most test xs)
   where
@@ -21,7 +21,7 @@ count-most test (x ∷ xs) = go (test x) (count-most test xs)
     go true h = omega arith
     go false h = omega arith
 
-two-most : (b : Bool) → (if b then 2 else 0) ≤ 2
+pub two-most : (b : Bool) → (if b then 2 else 0) ≤ 2
 two-most true = omega arith
 two-most false = omega arith
 

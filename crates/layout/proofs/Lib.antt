@@ -1,3 +1,5 @@
 pub mod MaskTests
 pub mod LayoutLengths
 pub mod GreatestLength
+pub mod MixedTests
+pub mod MixedLengths

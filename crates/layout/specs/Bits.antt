@@ -65,3 +65,38 @@ ofPoint = distance ∷ direction ∷ echo ∷ []
 -- those that no mask of a job has (rule 2.7)
 abbrev pub reserved : List ℕ
 reserved = 14 ∷ 15 ∷ []
+
+-- once, behind SENSTAT, in a mixed profile (rule 5.19)
+abbrev pub reflectors : ℕ
+reflectors = 16
+
+-- for each reflector: x and y; distance and angle; time; mean echo; number of spots (rule 5.19)
+abbrev pub cartesian : ℕ
+cartesian = 18
+
+abbrev pub polar : ℕ
+polar = 19
+
+abbrev pub time : ℕ
+time = 20
+
+abbrev pub meanEcho : ℕ
+meanEcho = 21
+
+abbrev pub spots : ℕ
+spots = 22
+
+-- those of a reflector that stand for four words, and those that stand for one (rule 5.20)
+abbrev pub ofFour : List ℕ
+ofFour = cartesian ∷ polar ∷ []
+
+abbrev pub ofOne : List ℕ
+ofOne = time ∷ meanEcho ∷ spots ∷ []
+
+-- all of a reflector, which need the number of reflectors (rule 2.11)
+abbrev pub ofReflector : List ℕ
+ofReflector = cartesian ∷ polar ∷ time ∷ meanEcho ∷ spots ∷ []
+
+-- those that no mixed mask has, beside the reserved ones of a plain mask (rule 2.11)
+abbrev pub reservedMixed : List ℕ
+reservedMixed = 17 ∷ 23 ∷ 24 ∷ 25 ∷ 26 ∷ 27 ∷ 28 ∷ 29 ∷ 30 ∷ 31 ∷ []

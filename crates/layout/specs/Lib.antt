@@ -4,3 +4,6 @@ pub mod Masks
 pub mod Fields
 pub mod Layout
 pub mod Lengths
+-- mixed profiles
+pub mod MixedMasks
+pub mod Mixed

@@ -37,3 +37,21 @@ pub const SENSTAT: u32 = 13;
 pub const RESERVED_LOW: u32 = 14;
 
 pub const RESERVED_HIGH: u32 = 15;
+
+// Once, behind SENSTAT, in a mixed profile (rule 5.19).
+pub const REFLECTORS: u32 = 16;
+
+// For each reflector: four words each.
+pub const CARTESIAN: u32 = 18;
+
+pub const POLAR: u32 = 19;
+
+// And one word each.
+pub const TIME: u32 = 20;
+
+pub const MEAN_ECHO: u32 = 21;
+
+pub const SPOTS: u32 = 22;
+
+// One that no mixed mask has (rule 2.11); the others are above `SPOTS`.
+pub const RESERVED_MIXED: u32 = 17;

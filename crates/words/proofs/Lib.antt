@@ -6,6 +6,7 @@ pub mod Puts
 pub mod BitLaws
 pub mod Takes
 pub mod Lawful
+pub mod AnyPlace
 pub mod Formats
 pub mod Extends
 pub mod Tracks
