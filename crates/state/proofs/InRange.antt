@@ -4,7 +4,8 @@ use mathlib.Core.Bool.{Bool, true, false, not, _&&_, and-true}
 use Prim.Native.Nat.{ℕ, _+_, _≤_, _<_}
 use lib.Dec.{leb, eqb}
 use borrow.Author.Tests.{le-leb, lt-leb}
-use Rattle.layout.specs.Masks.{maskOk}
+use Rattle.layout.specs.declared.Mask.{Mask}
+use Rattle.layout.specs.MixedMasks.{admitted}
 use Rattle.plan.specs.declared.Plan.{Plan}
 use Rattle.plan.specs.Sectors.{isStep, planInRange}
 use Rattle.plan.specs.Checks.{measureError}
@@ -44,11 +45,11 @@ module _ (mode : Mode) (working : Plan) (step running : ℕ) where
 
 -- `job_ok`
 module _ (mode : Mode) (job : Job) (a : Bool) (ea : a ≡ isMeasure mode) where
-  module _ (left mask sent : ℕ) (j : job ≡ Counted left mask sent) where
+  module _ (left : ℕ) (mask : Mask) (sent : ℕ) (j : job ≡ Counted left mask sent) where
     pub counted-idle : not a ≡ true → false ≡ jobOk mode job
     counted-idle q = rw (j, said-no ea q)
 
-    module _ (qa : not a ≡ false) (b : Bool) (eb : b ≡ maskOk mask) where
+    module _ (qa : not a ≡ false) (b : Bool) (eb : b ≡ admitted mask) where
       pub counted-mask : not b ≡ true → false ≡ jobOk mode job
       counted-mask q = rw (j, said-yes ea qa, said-no eb q)
 
@@ -58,11 +59,11 @@ module _ (mode : Mode) (job : Job) (a : Bool) (ea : a ≡ isMeasure mode) where
       pub some-left : not b ≡ false → 1 ≤ left → leb (left + sent) 65535 ≡ jobOk mode job
       some-left q h = rw (j, said-yes ea qa, said-yes eb q, le-leb _ _ h)
 
-  module _ (mask sent : ℕ) (j : job ≡ Endless mask sent) where
+  module _ (mask : Mask) (sent : ℕ) (j : job ≡ Endless mask sent) where
     pub endless-idle : not a ≡ true → false ≡ jobOk mode job
     endless-idle q = rw (j, said-no ea q)
 
-    pub endless-mask : not a ≡ false → (b : Bool) → b ≡ maskOk mask → b ≡ jobOk mode job
+    pub endless-mask : not a ≡ false → (b : Bool) → b ≡ admitted mask → b ≡ jobOk mode job
     endless-mask q b eb = rw (j, said-yes ea q) eb
 
 -- `in_range`

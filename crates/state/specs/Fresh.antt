@@ -3,6 +3,7 @@ use mathlib.Core.Path.{_≡_}
 use mathlib.Core.List.{[], _∷_}
 use Prim.Native.Nat.{ℕ}
 use Rattle.units.specs.Units.{angle}
+use Rattle.layout.specs.declared.Mask.{Mask}
 use Rattle.plan.specs.declared.Plan.{Plan}
 use Rattle.plan.specs.Sectors.{sector, filled}
 use Rattle.state.specs.declared.State.{State}
@@ -41,6 +42,6 @@ abbrev pub FreshSays : State → Type 0
 FreshSays r = r ≡ freshState
 
 -- a fresh sensor, but that it measures with a plan at a step and a running speed, with a job of one profile (rule 5.9)
-abbrev pub measuring : Plan → ℕ → ℕ → ℕ → State
+abbrev pub measuring : Plan → ℕ → ℕ → Mask → State
 measuring p step running mask =
     withDrive (withPlans (withConfig freshState (freshState .id) (freshState .speed) step) p p) Measure running (Counted 1 mask 0)

@@ -2,7 +2,7 @@
 use mathlib.Core.Bool.{Bool, true, false, _&&_}
 use Prim.Native.Nat.{ℕ, _+_}
 use lib.Dec.{leb, eqb}
-use Rattle.layout.specs.Masks.{maskOk}
+use Rattle.layout.specs.MixedMasks.{admitted}
 use Rattle.plan.specs.declared.Plan.{Plan}
 use Rattle.plan.specs.Sectors.{isStep, planInRange}
 use Rattle.plan.specs.Checks.{measureError}
@@ -37,8 +37,8 @@ checksOk Measure working step running = eqb (measureError working step running) 
 abbrev pub driveOk : Mode → ℕ → Plan → ℕ → Bool
 driveOk mode running working step = runningOk mode running && checksOk mode working step running
 
--- a job exists only in MEASURE, with a mask that a profile may have; a counted one has some left, and its numbers never wrap. Of no job
--- nothing is asked (rule 2.7)
+-- a job exists only in MEASURE, with a mask that a profile of its kind may have; a counted one has some left, and its numbers never wrap. Of
+-- no job nothing is asked (rules 2.7 and 2.11)
 abbrev pub isMeasure : Mode → Bool
 isMeasure Idle = false
 isMeasure Rotate = false
@@ -46,8 +46,8 @@ isMeasure Measure = true
 
 abbrev pub jobOk : Mode → Job → Bool
 jobOk mode Absent = true
-jobOk mode (Counted left mask sent) = isMeasure mode && maskOk mask && leb 1 left && leb (left + sent) 65535
-jobOk mode (Endless mask sent) = isMeasure mode && maskOk mask
+jobOk mode (Counted left mask sent) = isMeasure mode && admitted mask && leb 1 left && leb (left + sent) 65535
+jobOk mode (Endless mask sent) = isMeasure mode && admitted mask
 
 -- the fields that no other field goes with: the stored plan, and the settings. A new one of this sort is tested here (rules 2.2 and 2.10)
 abbrev pub aloneOk : State → Bool

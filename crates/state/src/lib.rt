@@ -1,4 +1,5 @@
 // The sensor's state: its fields and their ranges, how it is set, and what a call hands back of it.
+use layout::Mask;
 use plan::Plan;
 use units::Angle;
 use units::Millimetres;
@@ -32,11 +33,12 @@ pub enum Mode {
     Measure,
 }
 
-// A profile job: none; so many left, with its mask and the number sent; or endless, with its mask and the number sent (rule 2.7).
+// A profile job: none; so many left, with its mask and the number sent; or endless, with its mask and the number sent (rule 2.7). The mask
+// says of which kind the profiles are.
 pub enum Job {
     Absent,
-    Counted { left: u16, mask: u16, sent: u16 },
-    Endless { mask: u16, sent: u16 },
+    Counted { left: u16, mask: Mask, sent: u16 },
+    Endless { mask: Mask, sent: u16 },
 }
 
 // By what reflectors are told, and how large they are: a threshold, and a radius, 0 for flat ones (rule 2.10).

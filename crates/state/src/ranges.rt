@@ -60,7 +60,7 @@ pub fn is_measure(mode: Mode) -> bool
     }
 }
 
-// A job exists only in MEASURE, with a mask, a number left and a number sent that it may have (rule 2.7).
+// A job exists only in MEASURE, with a mask, a number left and a number sent that it may have (rules 2.7 and 2.11).
 fn job_ok(mode: Mode, job: Job) -> bool
     ensures { λ r. ⌜ r ≡ jobOk mode job ⌝ }
 {
@@ -70,7 +70,7 @@ fn job_ok(mode: Mode, job: Job) -> bool
             if !is_measure(mode) {
                 return false;
             }
-            if !layout::mask_ok(mask as u32) {
+            if !layout::admitted(mask) {
                 return false;
             }
             if left < 1 {
@@ -82,7 +82,7 @@ fn job_ok(mode: Mode, job: Job) -> bool
             if !is_measure(mode) {
                 return false;
             }
-            layout::mask_ok(mask as u32)
+            layout::admitted(mask)
         }
     }
 }
