@@ -5,7 +5,10 @@ use mathlib.Core.List.{List, [], _∷_, _++_}
 use Prim.Native.Nat.{ℕ, _≤_}
 use borrow.Author.Tests.{eq-eqb, ne-eqb, le-ltb}
 use Rattle.units.specs.declared.Angle.{Angle}
+use Rattle.layout.specs.declared.Kind.{Kind}
+use Rattle.layout.specs.declared.Mask.{Mask}
 use Rattle.layout.specs.Masks.{cleared}
+use Rattle.layout.specs.MixedMasks.{isOf}
 use Rattle.plan.specs.declared.Plan.{Plan}
 use Rattle.plan.specs.declared.Sector.{Sector}
 use Rattle.plan.specs.Sectors.{stopOf, entryAt, withEntry}
@@ -14,16 +17,17 @@ use Rattle.words.proofs.Tests.{said-no, said-yes}
 use Rattle.state.specs.declared.State.{State}
 use Rattle.state.specs.declared.Mode.the-variants.{Idle, Rotate, Measure}
 use Rattle.state.specs.declared.Job.{Job}
-use Rattle.state.specs.declared.Job.the-variants.{Absent}
+use Rattle.state.specs.declared.Job.the-variants.{Absent, Counted, Endless}
 use Rattle.state.specs.declared.Settings.{Settings}
 use Rattle.state.specs.Modes.{modeNumber}
+use Rattle.state.specs.Jobs.{hasKind}
 use Rattle.state.specs.Nav300.{restored}
 use Rattle.state.specs.Fields.{withConfig, withPlans, withDrive, withPort, withCounter, withSettings}
 use Rattle.state.specs.Ranges.{speedOk}
 use Rattle.services.specs.declared.Served.{Served}
 use Rattle.services.specs.Answers.{answer, senstat, answerStatus, noValue, Gives}
 use Rattle.services.specs.Configuration.{configTaken, setConfig, sectorSet, functionSet, stopSet, setFunction, getFunction}
-use Rattle.services.specs.Measurement.{newJob, getProfile}
+use Rattle.services.specs.Measurement.{newJob, getProfile, cancelled}
 use Rattle.services.specs.Working.{idleOf, coldOf, stopMeasure, rotateOf, measureOf, transMeasure}
 
 -- an answer with the state that a callee handed back
@@ -67,14 +71,38 @@ pub entry-got : (r : Served) (s : State) (code number : ℕ) (e : Sector) → nu
     → Gives r (answer s (code ∷ number ∷ e .function ∷ stopOf e ∷ [])) → Gives r (getFunction s code number)
 entry-got r s code number e h q g = rw (le-ltb _ _ h) (rw q at g)
 
+-- `new_job`
+module _ (number : ℕ) (mask : Mask) where
+  pub endless-new : number ≡ 0 → Endless mask 0 ≡ newJob number mask
+  endless-new h = rw (eq-eqb _ _ h)
+
+  pub counted-new : (number ≡ 0 → ⊥) → Counted number mask 0 ≡ newJob number mask
+  counted-new h = rw (ne-eqb _ _ h)
+
 -- `get_profile`
 module _ (r : Served) (s : State) (code number mask : ℕ) where
   pub job-stays : cleared mask ≡ 0 → Gives r (answer s (code ∷ [])) → Gives r (getProfile s code number mask)
   job-stays h g = rw (eq-eqb _ _ h) g
 
-  pub job-starts : (j : Job) (t : State) → (cleared mask ≡ 0 → ⊥) → j ≡ newJob number (cleared mask)
+  pub job-starts : (j : Job) (t : State) → (cleared mask ≡ 0 → ⊥) → j ≡ newJob number (Mask.Plain (cleared mask))
       → t ≡ withDrive s (s .mode) (s .running) j → Gives r (answer t []) → Gives r (getProfile s code number mask)
   job-starts j t h ej et g = rw (ne-eqb _ _ h) (rw (et, ej) at g)
+
+-- `has_kind`
+module _ (kind : Kind) (job : Job) (mask : Mask) (sent : ℕ) (r : Bool) (er : r ≡ isOf kind mask) where
+  pub counted-kind : (left : ℕ) → job ≡ Counted left mask sent → r ≡ hasKind kind job
+  counted-kind left j = rw j er
+
+  pub endless-kind : job ≡ Endless mask sent → r ≡ hasKind kind job
+  endless-kind j = rw j er
+
+-- `cancelled`
+module _ (kind : Kind) (s : State) (a : Bool) (ea : a ≡ hasKind kind (s .job)) where
+  pub job-ends : a ≡ true → (t : State) → t ≡ withDrive s (s .mode) (s .running) Absent → t ≡ cancelled kind s
+  job-ends q t e = rw (← ea, q) e
+
+  pub job-goes-on : a ≡ false → s ≡ cancelled kind s
+  job-goes-on q = rw (← ea, q)
 
 -- `cold`, `stop_measure`
 pub is-cold : (s a b c d t : State) (n : Settings)

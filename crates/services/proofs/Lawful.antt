@@ -11,7 +11,10 @@ use borrow.Author.Tests.{ne-eqb, lt-ltb, eqb-false, not-true}
 use Rattle.units.specs.Directions.{circle}
 use Rattle.words.specs.Choice.{if_then_else_}
 use Rattle.words.proofs.Tests.{and-l, and-r, and-both, holds}
-use Rattle.layout.specs.Masks.{maskOk, cleared}
+use Rattle.layout.specs.declared.Kind.{Kind}
+use Rattle.layout.specs.declared.Mask.{Mask}
+use Rattle.layout.specs.Masks.{cleared}
+use Rattle.layout.specs.MixedMasks.{admitted}
 use Rattle.layout.proofs.MaskTests.{cleared-ok}
 use Rattle.plan.specs.declared.Plan.{Plan}
 use Rattle.plan.specs.Sectors.{sector, isFunction, entryInRange, planInRange}
@@ -22,6 +25,7 @@ use Rattle.state.specs.declared.Mode.{Mode}
 use Rattle.state.specs.declared.Mode.the-variants.{Idle, Rotate, Measure}
 use Rattle.state.specs.declared.Job.{Job}
 use Rattle.state.specs.declared.Job.the-variants.{Absent, Counted, Endless}
+use Rattle.state.specs.Jobs.{hasKind}
 use Rattle.state.specs.Changes.{Part, onlyIn}
 use Rattle.state.specs.Changes as part
 use Rattle.state.specs.Nav300.{restored}
@@ -32,7 +36,7 @@ use Rattle.state.proofs.SettingsParts.{InRanges}
 use Rattle.state.proofs.Parts.{Parts, stored-of, settings-of, config-set, plans-set, drive-set, port-set, counter-set, settings-set}
 use Rattle.services.specs.Answers.{answer, answerStatus, senstat, longest}
 use Rattle.services.specs.Configuration.{configItem, configTaken, setConfig, sectorSet, functionSet, stopSet, workingSet, setFunction}
-use Rattle.services.specs.Measurement.{newJob, startsJob, getProfile, cancelProfile}
+use Rattle.services.specs.Measurement.{newJob, startsJob, getProfile, cancelled, cancelProfile}
 use Rattle.services.specs.Status.{setSignal}
 use Rattle.services.specs.Working.{driveParts, resetParts, idleOf, coldOf, stopMeasure, doReset, transIdle, transRotate, transMeasure}
 
@@ -111,6 +115,17 @@ no-job Rotate (Endless mask sent) h n = absurd h
 no-job Measure (Counted left mask sent) h n = absurd (n refl)
 no-job Measure (Endless mask sent) h n = absurd (n refl)
 
+-- a new job may stand in MEASURE, where its mask is one that a job may have
+new-job-ok : (number : ℕ) (mask : Mask) → number ≤ 65535 → T (admitted mask) → T (jobOk Measure (newJob number mask))
+new-job-ok number mask l k = go (eqb number 0) refl
+  where
+    go : (b : Bool) → eqb number 0 ≡ b → T (jobOk Measure (if b then Endless mask 0 else Counted number mask 0))
+    go true e = k
+    go false e =
+        let some = le→leb 1 number (omega (arith, eqb-false number 0 e)) in
+        let most = le→leb (number + 0) 65535 (omega arith) in
+        search and-both
+
 -- the running speed of a mode that turns
 turning : (m : Mode) (running : ℕ) → (m ≡ Idle → ⊥) → T (runningOk m running) → T (speedOk running)
 turning Idle running n h = absurd (n refl)
@@ -173,29 +188,32 @@ module _ {Asked : Type 0} (s : State) (code : ℕ) where
           sets code s words refl tt (withPlans s w t) (λ _. refl) (λ h. (long (h .0), l h))
           (λ q p. plans-set s p w t (ok p) (k p) (unchecked (s .mode) w (s .step .0) (s .running) (m q)))
 
+  -- a job starts, or words are answered: whatever the mask's kind, where it is one that a job may have
+  pub starts-fine : (starts : Bool) (number : ℕ) (mask : Mask) (ws : List ℕ) → Responds false code ws → T (leb (length ws) longest)
+      → (starts ≡ true → T (admitted mask)) → (Asked → number ≤ 65535) → (Asked → s .mode ≡ Measure)
+      → Fine starts code (part.job ∷ []) Asked s
+      (if starts then answer (withDrive s (s .mode) (s .running) (newJob number mask)) [] else answer s ws)
+  starts-fine true number mask ws first few k l m =
+      sets-drive code s [] refl tt (s .mode) (s .running) (newJob number mask) (λ _. refl)
+      (λ q p. (p .running, p .checks, rw (m q) (new-job-ok number mask (l q) (k refl))))
+  starts-fine false number mask ws first few k l m = stays code s ws first few refl
+
   pub profile-fine : (number mask : ℕ) → (Asked → number ≤ 65535) → (Asked → s .mode ≡ Measure)
       → Fine (startsJob mask) code (part.job ∷ []) Asked s (getProfile s code number mask)
-  profile-fine number mask l m = go (startsJob mask) refl
-    where
-      job : number ≤ 65535 → s .mode ≡ Measure → (b : Bool) → eqb number 0 ≡ b → T (maskOk (cleared mask))
-          → T (jobOk (s .mode) (if b then Endless (cleared mask) 0 else Counted number (cleared mask) 0))
-      job l m true e k = rw m k
-      job l m false e k =
-          let a = le→leb 1 number (omega (arith, eqb-false number 0 e)) in
-          let b = le→leb (number + 0) 65535 (omega arith) in
-          rw m (search and-both)
+  profile-fine number mask =
+      starts-fine (startsJob mask) number (Mask.Plain (cleared mask)) (code ∷ []) refl tt (λ e. cleared-ok mask (not-true (eqb (cleared mask) 0) e))
 
-      after : State
-      after = withDrive s (s .mode) (s .running) (newJob number (cleared mask))
-
-      go : (b : Bool) → startsJob mask ≡ b → Fine b code (part.job ∷ []) Asked s (if b then answer after [] else answer s (code ∷ []))
-      go true e =
-          sets-drive code s [] refl tt (s .mode) (s .running) (newJob number (cleared mask)) (λ _. refl)
-          (λ q p. (p .running, p .checks, job (l q) (m q) (eqb number 0) refl (cleared-ok mask (not-true (eqb (cleared mask) 0) e))))
-      go false e = stays code s (code ∷ []) refl tt refl
+  -- a job of the kind ends, and words are answered of the state behind
+  pub cancelled-fine : (kind : Kind) (ws : State → List ℕ) → ((t : State) → Responds false code (ws t))
+      → ((t : State) → T (leb (length (ws t)) longest))
+      → Fine false code (part.job ∷ []) Asked s (answer (cancelled kind s) (ws (cancelled kind s)))
+  cancelled-fine kind ws first few =
+      chosen (Fine false code (part.job ∷ []) Asked s) (λ t. answer t (ws t)) (hasKind kind (s .job)) _ _
+      (λ _. sets-drive code s _ (first _) (few _) (s .mode) (s .running) Absent (λ _. refl) (λ _ p. (p .running, p .checks, tt)))
+      (λ _. stays code s _ (first s) (few s) refl)
 
   pub cancel-fine : Fine false code (part.job ∷ []) Asked s (cancelProfile s code)
-  cancel-fine = sets-drive code s _ refl tt (s .mode) (s .running) Absent (λ _. refl) (λ _ p. (p .running, p .checks, tt))
+  cancel-fine = cancelled-fine Kind.Plain (λ t. code ∷ senstat t) (λ _. refl) (λ _. tt)
 
   pub reset-fine : (level : ℕ) → Fine false code resetParts Asked s (doReset s code level)
   reset-fine level =

@@ -5,3 +5,4 @@ pub mod Configuration
 pub mod Measurement
 pub mod Working
 pub mod Nav300
+pub mod Mixed

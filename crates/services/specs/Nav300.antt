@@ -9,7 +9,7 @@ use Rattle.state.specs.Fields.{withSettings}
 use Rattle.state.specs.Replies.{Outcome}
 use Rattle.services.specs.Answers.{answer}
 
--- what is answered in the place of a value that is out of its range; `BAD_VALUE` in the code (rules 4.19 and 4.20)
+-- what is answered in the place of a value that is out of its range; `BAD_VALUE` in the code (rules 4.19, 4.20 and 4.23)
 abbrev pub badValue : ℕ
 badValue = 0xFF01
 

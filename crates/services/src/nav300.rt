@@ -12,8 +12,8 @@ use state::State;
 use units::Millimetres;
 use units::Percent;
 
-// What is answered in the place of a value that is out of its range; `badValue` in the specs (rules 4.19 and 4.20).
-const BAD_VALUE: u16 = 0xFF01;
+// What is answered in the place of a value that is out of its range; `badValue` in the specs (rules 4.19, 4.20 and 4.23).
+pub(crate) const BAD_VALUE: u16 = 0xFF01;
 
 pub fn set_rotate_direction(state: State, code: u16, rotation: u16) -> Served
     ensures { λ r. ⌜ Gives r (setRotateDirection state code rotation) ⌝ }
