@@ -1,5 +1,6 @@
 -- The table's services, one by one: each is found by its code, and is fine. Every theorem of the table rests on this alone.
 use mathlib.Core.Path.{_≡_, refl, subst}
+use mathlib.Core.Bool.{or-false}
 use mathlib.Core.List.{List, []}
 use Prim.Native.Nat.{ℕ, _≤_}
 use lib.Dec.{T, ltb, eqb}
@@ -13,6 +14,7 @@ use Rattle.services.specs.Configuration.{configItem}
 use Rattle.services.proofs.Lawful.{Fine, stays}
 use Rattle.services.proofs.Lawful as law
 use Rattle.services.proofs.SettingsLawful as settings
+use Rattle.services.proofs.MixedLawful as mixed
 use Rattle.sensor.specs.declared.Service.{Service}
 use Rattle.sensor.specs.Table.{rowOf, response, serviceOf, allowed, silent}
 use Rattle.sensor.specs.Requests.{outcome}
@@ -33,6 +35,7 @@ pub record Lawful (v : Service) : Type 0 where
 unlisted : (v : Service) (s : State) (a : ℕ) (m : Mode) → (T (allowed v m) → ⊥) → Asked v s a → s .mode ≡ m → ⊥
 unlisted v s a m n q e = n (subst (λ (m : Mode). T (allowed v m)) e (q .1))
 
+-- a profile is asked for in MEASURE only, plain or mixed
 only-measure : (m : Mode) → T (allowed Service.GetProfile m) → m ≡ Measure
 only-measure Idle h = absurd h
 only-measure Rotate h = absurd h
@@ -58,7 +61,7 @@ lawful Service.GetFunction =
       fine = λ s r a b c d. picked (FineRow Service.GetFunction s r a b c d) (ltb 7 a) _ _ (stays r s _ refl tt refl) (stays r s _ refl tt refl);
     }
 lawful Service.GetProfile =
-    record { found = refl; fine = λ s r a b c d. law.profile-fine s r a b (λ q. q .0) (λ q. only-measure (s .mode) (q .1)) }
+    record { found = refl; fine = λ s r a b c d. rw or-false (law.profile-fine s r a b (λ q. q .0) (λ q. only-measure (s .mode) (q .1))) }
 lawful Service.CancelProfile = record { found = refl; fine = λ s r a b c d. law.cancel-fine s r }
 lawful Service.DoReset = record { found = refl; fine = λ s r a b c d. law.reset-fine s r a }
 lawful Service.TransIdle = record { found = refl; fine = λ s r a b c d. law.idle-fine s r }
@@ -69,6 +72,9 @@ lawful Service.SetRotateDirection = record { found = refl; fine = λ s r a b c d
 lawful Service.SetReflectorConfig = record { found = refl; fine = λ s r a b c d. settings.reflector-fine s r a b }
 lawful Service.GetRotateDirection = record { found = refl; fine = λ s r a b c d. stays r s _ refl tt refl }
 lawful Service.GetReflectorConfig = record { found = refl; fine = λ s r a b c d. stays r s _ refl tt refl }
+lawful Service.GetMixedProfile =
+    record { found = refl; fine = λ s r a b c d. mixed.mixed-profile-fine s r a b c (λ q. q .0) (λ q. only-measure (s .mode) (q .1)) }
+lawful Service.CancelMixedProfile = record { found = refl; fine = λ s r a b c d. mixed.cancel-mixed-fine s r }
 lawful Service.SavePermanent = record { found = refl; fine = λ s r a b c d. settings.save-fine s r }
 lawful Service.Unknown = record { found = refl; fine = λ s r a b c d. stays r s [] refl tt refl }
 

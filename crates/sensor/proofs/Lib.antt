@@ -5,6 +5,7 @@ pub mod Answering
 -- The theorems
 pub mod Lawful
 pub mod Demand1
+pub mod OtherKind
 pub mod Served
 pub mod SettingsKept
 pub mod RequestRows

@@ -19,6 +19,7 @@ use Rattle.state.proofs.Parts.{parts}
 use Rattle.state.proofs.SameParts.{same-in}
 use Rattle.services.specs.Answers.{answer, noValue}
 use Rattle.services.specs.Configuration.{configItem, configTaken}
+use Rattle.services.specs.Mixed.{startsMixed}
 use Rattle.services.specs.Nav300.{badValue, valueSaid}
 use Rattle.services.proofs.Lawful.{Responds}
 use Rattle.sensor.specs.declared.Service.{Service}
@@ -27,6 +28,7 @@ use Rattle.sensor.specs.Requests.{outcome, requestOf}
 use Rattle.sensor.specs.Demands.{TableHolds, OnlyThese}
 use Rattle.sensor.proofs.Lawful.{lawful, outcome-fine}
 use Rattle.sensor.proofs.Demand1.{requested-by, served-so}
+use Rattle.sensor.proofs.OtherKind.{mixed-left, plain-left}
 
 -- the first word, and whether there is one
 first-word : (b : Bool) (code : ℕ) (ws : List ℕ) → Responds b code ws → T (not b) → take 1 ws ≡ code ∷ []
@@ -93,6 +95,15 @@ reflector-no threshold radius bad s a b c d q =
         (⊎-elim (λ h. not-bad a 100 (leb→le a 100 (and-r (leb 1 a) (leb a 100) (holds e))) (omega arith) (rw i h))
         (λ h. not-bad b 127 (leb→le b 127 (holds f)) (omega arith) (rw j h)) (either (eqb threshold badValue) (eqb radius badValue) bad))
 
+-- by a test: nothing is answered and something stored, or words are answered and nothing stored
+by-no-word : (starts : Bool) (s t : State) (said : List ℕ) (code : ℕ) (words : List ℕ)
+    → (if starts then answer t [] else answer s said) .words ≡ code ∷ words → (if starts then answer t [] else answer s said) .after ≡ s
+by-no-word true s t said code words q = absurd (let z : _≡_ {A = ℕ} 0 (suc (length words)) = ap length q in omega arith)
+by-no-word false s t said code words q = refl
+
+mask-no : (high low : ℕ) → SaysNoBy Service.GetMixedProfile (high ∷ low ∷ badValue ∷ [])
+mask-no high low s a b c d = by-no-word (startsMixed b c) s _ _ _ _
+
 -- which service answered, by the first word
 code-is : (b : Bool) (code k : ℕ) (ws rest : List ℕ) → Responds b (response code) ws → ws ≡ response k ∷ rest → code ≡ k
 code-is true code k ws rest r q = absurd (let z : _≡_ {A = ℕ} (suc (length rest)) 0 = ap length (sym q ∙ r) in omega arith)
@@ -127,6 +138,9 @@ only-these s ws room =
       no-config = request-no Service.SetConfig (noValue ∷ []) set-config-no s ws room;
       no-rotation = request-no Service.SetRotateDirection (badValue ∷ []) rotation-no s ws room;
       no-reflector = λ a b bad. request-no Service.SetReflectorConfig (a ∷ b ∷ []) (reflector-no a b bad) s ws room;
+      no-mask = λ high low. request-no Service.GetMixedProfile (high ∷ low ∷ badValue ∷ []) (mask-no high low) s ws room;
+      mixed-goes-on = mixed-left s ws room;
+      plain-goes-on = plain-left s ws room;
     }
   where
     changes : List Part

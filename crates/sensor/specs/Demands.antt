@@ -9,7 +9,9 @@ use lib.Dec.{T, ltb, eqb}
 use lib.ListN.{length, getD, take}
 use Rattle.words.specs.Lists.{some, every, areWords}
 use Rattle.words.specs.Numbers.{No, no, firstOf}
+use Rattle.layout.specs.declared.Kind.{Kind}
 use Rattle.state.specs.declared.State.{State}
+use Rattle.state.specs.Jobs.{hasKind}
 use Rattle.state.specs.Changes.{onlyIn}
 use Rattle.state.specs.Ranges.{inRange}
 use Rattle.state.specs.Replies.{Unchanged}
@@ -65,7 +67,8 @@ abbrev pub TableHolds : Type 0
 TableHolds = (v : Service) → T (isListed v) → Tabled v
 
 -- What a request changes: the parts of the state that the row of its service names, and nothing else; and nothing where SET_CONFIG is
--- answered no value, or a value of SET_ROTATE_DIRECTION or SET_REFLECTOR_CONFIG is answered as bad (rules 4.4, 4.6, 4.19 and 4.20)
+-- answered no value, a value of SET_ROTATE_DIRECTION or SET_REFLECTOR_CONFIG or the mask of a GET_MIXED_PROFILE is answered as bad, or a job of
+-- the other kind is cancelled (rules 4.4, 4.6, 4.11, 4.19, 4.20, 4.23 and 4.24)
 pub record Stays (s : State) (ws : List ℕ) (room : ℕ) : Type 0 where
   pub only : requestOf s ws room .reply .state ≡ onlyIn (rowOf (serviceOf (getD ws 0 0)) .changes) s (requestOf s ws room .reply .state)
   pub no-config : requestOf s ws room .written ≡ response (rowOf Service.SetConfig .code) ∷ noValue ∷ [] → requestOf s ws room .reply .state ≡ s
@@ -75,6 +78,13 @@ pub record Stays (s : State) (ws : List ℕ) (room : ℕ) : Type 0 where
       (threshold radius : ℕ) → T (eqb threshold badValue || eqb radius badValue)
       → requestOf s ws room .written ≡ response (rowOf Service.SetReflectorConfig .code) ∷ threshold ∷ radius ∷ []
       → requestOf s ws room .reply .state ≡ s
+  pub no-mask :
+      (high low : ℕ) → requestOf s ws room .written ≡ response (rowOf Service.GetMixedProfile .code) ∷ high ∷ low ∷ badValue ∷ []
+      → requestOf s ws room .reply .state ≡ s
+  pub mixed-goes-on :
+      T (hasKind Kind.Mixed (s .job)) → getD ws 0 0 ≡ rowOf Service.CancelProfile .code → requestOf s ws room .reply .state ≡ s
+  pub plain-goes-on :
+      T (hasKind Kind.Plain (s .job)) → getD ws 0 0 ≡ rowOf Service.CancelMixedProfile .code → requestOf s ws room .reply .state ≡ s
 
 abbrev pub OnlyThese : Type 0
 OnlyThese = (s : State) (ws : List ℕ) (room : ℕ) → Stays s ws room

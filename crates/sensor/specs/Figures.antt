@@ -3,6 +3,7 @@ use mathlib.Core.List.{List, [], _∷_, _++_}
 use Prim.Native.Nat.{ℕ}
 use Rattle.words.specs.Rows.{Row, Shown}
 use Rattle.state.specs.declared.State.{State}
+use Rattle.state.specs.Jobs.{jobNumbers}
 use Rattle.state.specs.Fresh.{freshState}
 use Rattle.services.specs.Answers.{longest}
 use Rattle.sensor.specs.Requests.{requestOf}
@@ -41,6 +42,21 @@ reflector = 0x1212 ∷ []
 
 abbrev reflectorTo : ℕ → ℕ → List ℕ
 reflectorTo threshold radius = 0x1202 ∷ threshold ∷ radius ∷ []
+
+-- GET_MIXED_PROFILE (rule 4.23)
+abbrev mixedProfile : ℕ → ℕ → ℕ → List ℕ
+mixedProfile number high low = 0x1301 ∷ number ∷ high ∷ low ∷ []
+
+-- the job behind some requests to a fresh sensor that was brought to MEASURE: its kind, how many are left, its mask's number, and 1 where the
+-- mask is mixed (rule 7.17)
+unfoldable pub stateAfter : State → List (List ℕ) → State
+stateAfter s [] = s
+stateAfter s (ws ∷ rest) = stateAfter (requestOf s ws longest .reply .state) rest
+
+abbrev jobAfter : List (List ℕ) → List ℕ
+jobAfter requests =
+    let n = jobNumbers (stateAfter freshState (rotated 0 ∷ measured ∷ requests) .job) in
+    n .kind ∷ n .left ∷ n .mask ∷ n .mixed ∷ []
 
 abbrev pub requestRows : List Row
 requestRows =
@@ -134,6 +150,36 @@ requestRows =
           ∷ 0 ∷ 0x9212 ∷ 80 ∷ 40
           ∷ 0 ∷ 0x9211 ∷ 0 ∷ [];
     }
+    -- jobs of both kinds: bit 17, bit 14, and bit 18 without bit 16 are no mask; a mixed job is left by the plain cancel, and a plain one by the
+    -- mixed (rule 7.17)
+    ∷ record {
+      value =
+          dialogue freshState
+          (rotated 0
+          ∷ measured
+          ∷ mixedProfile 1 2 1
+          ∷ mixedProfile 1 0 0x4001
+          ∷ mixedProfile 0 4 0
+          ∷ mixedProfile 3 1 0
+          ∷ (0x0302 ∷ [])
+          ∷ (0x1302 ∷ [])
+          ∷ []);
+      figure =
+          0 ∷ 0x8403 ∷ 0 ∷ 2
+          ∷ 0 ∷ 0x8404 ∷ 0 ∷ 3 ∷ 0
+          ∷ 0 ∷ 0x9301 ∷ 2 ∷ 1 ∷ 0xFF01
+          ∷ 0 ∷ 0x9301 ∷ 0 ∷ 0x4001 ∷ 0xFF01
+          ∷ 0 ∷ 0x9301 ∷ 4 ∷ 0 ∷ 0xFF01
+          ∷ 0
+          ∷ 0 ∷ 0x8302 ∷ 0 ∷ 3
+          ∷ 0 ∷ 0x9302 ∷ 0 ∷ [];
+    }
+    -- what stands behind each cancel: the kind of job, how many are left, and whether its mask is mixed (rule 7.17)
+    ∷ record { value = jobAfter (mixedProfile 3 1 0 ∷ (0x0302 ∷ []) ∷ []); figure = 1 ∷ 3 ∷ 65536 ∷ 1 ∷ [] }
+    ∷ record { value = jobAfter (mixedProfile 3 1 0 ∷ (0x1302 ∷ []) ∷ []); figure = 0 ∷ 0 ∷ 0 ∷ 0 ∷ [] }
+    ∷ record { value = jobAfter ((0x0301 ∷ 3 ∷ 1 ∷ []) ∷ (0x1302 ∷ []) ∷ []); figure = 1 ∷ 3 ∷ 1 ∷ 0 ∷ [] }
+    ∷ record { value = jobAfter ((0x0301 ∷ 3 ∷ 1 ∷ []) ∷ mixedProfile 0 2 0 ∷ []); figure = 1 ∷ 3 ∷ 1 ∷ 0 ∷ [] }
+    ∷ record { value = jobAfter ((0x0301 ∷ 3 ∷ 1 ∷ []) ∷ mixedProfile 0 1 0 ∷ []); figure = 2 ∷ 0 ∷ 65536 ∷ 1 ∷ [] }
     ∷ []
 
 abbrev pub RequestFigures : Type 0

@@ -16,6 +16,7 @@ use Rattle.services.specs.Status.{getStatus, getSignal, setSignal}
 use Rattle.services.specs.Configuration.{setConfig, getConfig, setFunction, getFunction}
 use Rattle.services.specs.Measurement.{startsJob, getProfile, cancelProfile}
 use Rattle.services.specs.Working.{driveParts, resetParts, doReset, transIdle, transRotate, transMeasure}
+use Rattle.services.specs.Mixed.{startsMixed, getMixedProfile, cancelMixedProfile}
 use Rattle.services.specs.Nav300.{setRotateDirection, getRotateDirection, setReflectorConfig, getReflectorConfig, savePermanent}
 use Rattle.sensor.specs.declared.Service.{Service}
 
@@ -53,6 +54,8 @@ rowOf Service.SetRotateDirection = entry 0x1201 2 true true false (part.rotation
 rowOf Service.SetReflectorConfig = entry 0x1202 3 true true false (part.reflector ∷ []) (λ s r a b c d. setReflectorConfig s r a b)
 rowOf Service.GetRotateDirection = entry 0x1211 1 true true true [] (λ s r a b c d. getRotateDirection s r)
 rowOf Service.GetReflectorConfig = entry 0x1212 1 true true true [] (λ s r a b c d. getReflectorConfig s r)
+rowOf Service.GetMixedProfile = entry 0x1301 4 false false true (part.job ∷ []) (λ s r a b c d. getMixedProfile s r a b c)
+rowOf Service.CancelMixedProfile = entry 0x1302 1 false false true (part.job ∷ []) (λ s r a b c d. cancelMixedProfile s r)
 rowOf Service.SavePermanent = entry 0x1701 1 true true false (part.saved ∷ []) (λ s r a b c d. savePermanent s r)
 rowOf Service.Unknown = entry 0 0 false false false [] (λ s r a b c d. answer s [])
 
@@ -80,6 +83,8 @@ services =
     ∷ Service.SetReflectorConfig
     ∷ Service.GetRotateDirection
     ∷ Service.GetReflectorConfig
+    ∷ Service.GetMixedProfile
+    ∷ Service.CancelMixedProfile
     ∷ Service.SavePermanent
     ∷ []
 
@@ -108,9 +113,12 @@ outcomeOf v s a b c d = rowOf v .does s (response (rowOf v .code)) a b c d
 abbrev pub isListed : Service → Bool
 isListed v = not (eqb (rowOf v .wordsIn) 0)
 
--- no word is due: of what is no service, and of a GET_PROFILE whose mask starts a job (rule 4.10)
+-- no word is due: of what is no service, and of a GET_PROFILE or a GET_MIXED_PROFILE whose mask starts a job (rules 4.10 and 4.23)
 abbrev pub silent : Service → ℕ → ℕ → ℕ → ℕ → Bool
-silent v a b c d = not (isListed v) || (eqb (rowOf v .code) (rowOf Service.GetProfile .code) && startsJob b)
+silent v a b c d =
+    not (isListed v)
+    || (eqb (rowOf v .code) (rowOf Service.GetProfile .code) && startsJob b)
+    || (eqb (rowOf v .code) (rowOf Service.GetMixedProfile .code) && startsMixed b c)
 
 -- a row as the code holds it is that of a code (rule 4.3)
 pub record Lists (v : Service) (w : ℕ) (i r m : Bool) (code : ℕ) : Type 0 where

@@ -23,6 +23,8 @@ pub enum Service {
     SetReflectorConfig,
     GetRotateDirection,
     GetReflectorConfig,
+    GetMixedProfile,
+    CancelMixedProfile,
     SavePermanent,
     Unknown,
 }

@@ -39,6 +39,8 @@ pub(crate) fn row_of(code: u16) -> Row
         0x1202 => Row(Service::SetReflectorConfig, 3, true, true, false),
         0x1211 => Row(Service::GetRotateDirection, 1, true, true, true),
         0x1212 => Row(Service::GetReflectorConfig, 1, true, true, true),
+        0x1301 => Row(Service::GetMixedProfile, 4, false, false, true),
+        0x1302 => Row(Service::CancelMixedProfile, 1, false, false, true),
         0x1701 => Row(Service::SavePermanent, 1, true, true, false),
         _ => Row(Service::Unknown, 0, false, false, false),
     }
@@ -97,6 +99,8 @@ pub(crate) fn serve(
         ),
         Service::GetRotateDirection => services::get_rotate_direction(state, code),
         Service::GetReflectorConfig => services::get_reflector_config(state, code),
+        Service::GetMixedProfile => services::get_mixed_profile(state, code, a, b, c),
+        Service::CancelMixedProfile => services::cancel_mixed_profile(state, code),
         Service::SavePermanent => services::save_permanent(state, code),
         Service::Unknown => services::no_word(state),
     }

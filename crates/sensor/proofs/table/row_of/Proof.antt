@@ -27,4 +27,6 @@ row-of-spec =
     (λ c. search code-is)
     (λ c. search code-is)
     (λ c. search code-is)
+    (λ c. search code-is)
+    (λ c. search code-is)
     (λ c. search picks))
