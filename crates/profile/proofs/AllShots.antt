@@ -13,13 +13,14 @@ use Rattle.words.specs.Words.{laidAll}
 use Rattle.words.specs.Buffers.{inTurn}
 use Rattle.words.proofs.Puts.{turn-first, turns-same}
 use Rattle.units.specs.Directions.{circle, stepAfter, stepsPast}
+use Rattle.layout.specs.MixedMasks.{mixedNumber}
 use Rattle.plan.specs.declared.Sector.{Sector}
 use Rattle.plan.specs.Sectors.{stopOf, activeOf}
 use Rattle.plan.specs.Shots.{Shot, lastStop, shotsOf, arcOf, arcsFrom, shots, sweeps}
 use Rattle.plan.proofs.Runs.{shots-length}
 use Rattle.profile.specs.Points.{pointWords}
 use Rattle.profile.specs.Profiles.{Scan, pointsOf, sectorsOf, rateOf}
-use Rattle.profile.specs.Demands.{measuredFrom, AllPoints}
+use Rattle.profile.specs.Demands.{measuredFrom, AllPoints, MixedAllPoints}
 
 -- the words of a shot, by its number and its direction
 abbrev wordsAt : ℕ → Scan → ℕ → ℕ → List ℕ
@@ -88,3 +89,6 @@ all-shots mask step rate number before shot g (s ∷ ss) =
 pub all-points : AllPoints
 all-points s g mask sent counter =
     all-shots mask (s .step .0) (rateOf s) 0 (lastStop 0 (activeOf (s .working))) 0 g (activeOf (s .working))
+
+pub mixed-all-points : MixedAllPoints
+mixed-all-points s g high low sent counter = all-points s g (mixedNumber high low) sent counter

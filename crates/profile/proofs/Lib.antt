@@ -1,5 +1,6 @@
 -- The theorems
 pub mod ProfileLengths
+pub mod MixedLengths
 pub mod Revolved
 pub mod Carried
 pub mod AllShots
@@ -8,10 +9,13 @@ pub mod PointByPoint
 pub mod ProfileRows
 -- The functions
 pub mod PointSums
+pub mod Alone
 pub mod Selecting
 pub mod Laps
 pub mod Writing
 pub mod SectorTurns
 pub mod WholeProfile
+pub mod Reflecting
+pub mod MixedProfile
 pub mod Turning
 pub mod Sending

@@ -18,6 +18,7 @@ use Rattle.plan.specs.Sectors.{stopOf, active, activeOf}
 use Rattle.plan.specs.Shots.{lastStop, shotsOf, arcsFrom, arcs, noArc, arcAt}
 use Rattle.plan.proofs.ArcSums.{arcs-length, arc-few, count-fits}
 use Rattle.layout.specs.Lengths.{profileLength}
+use Rattle.layout.specs.Mixed.{mixedLength}
 
 pub if-most : (b : Bool) (n : ℕ) → (if b then n else 0) ≤ n
 if-most true n = omega arith
@@ -63,3 +64,7 @@ count-word l n len e = omega (arith, count-fits l n len e)
 
 pub plan-long : (mask a b n p r : ℕ) → n ≡ a → p ≡ b → r ≡ profileLength mask n p → r ≡ profileLength mask a b
 plan-long mask a b n p r en ep er = er ∙ rw (en, ep)
+
+-- `plan_mixed_length`
+pub plan-mixed-long : (mask a b k n p r : ℕ) → n ≡ a → p ≡ b → r ≡ mixedLength mask n p k → r ≡ mixedLength mask a b k
+plan-mixed-long mask a b k n p r en ep er = er ∙ rw (en, ep)

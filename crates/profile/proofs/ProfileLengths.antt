@@ -15,7 +15,7 @@ use Rattle.words.specs.Words.{givenIf, wordsOf, numberOf, Shaped, laidAll}
 use Rattle.words.proofs.Puts.{turns-long}
 use Rattle.layout.specs.Bits as bits
 use Rattle.layout.specs.Masks.{pointWidth, uncounted}
-use Rattle.layout.specs.Layout.{layoutSector, layout, SectorFits, Fits}
+use Rattle.layout.specs.Layout.{headLength, head, layoutSector, contour, layout, SectorFits, Fits}
 use Rattle.layout.specs.Lengths.{profileLength}
 use Rattle.plan.specs.declared.Arc.{Arc}
 use Rattle.plan.specs.Sectors.{activeOf}
@@ -25,13 +25,14 @@ use Rattle.state.specs.declared.State.{State}
 use Rattle.state.specs.Modes.{modeNumber}
 use Rattle.profile.specs.Points.{pointWords}
 use Rattle.profile.specs.Profiles.{Scan, pointAt, pointsOf, sectorOf, sectorsOf, arcsOf, rateOf, fieldsOf}
+use Rattle.profile.specs.Mixed.{withLayer}
 
 -- a word that is selected is one, another none
-one-word : (b : Bool) (w : ℕ) → length (wordsOf (givenIf b w)) ≡ (if b then 1 else 0)
+pub one-word : (b : Bool) (w : ℕ) → length (wordsOf (givenIf b w)) ≡ (if b then 1 else 0)
 one-word true w = refl
 one-word false w = refl
 
-shaped : (b : Bool) (w : ℕ) → Shaped b (givenIf b w)
+pub shaped : (b : Bool) (w : ℕ) → Shaped b (givenIf b w)
 shaped true w = tt
 shaped false w = tt
 
@@ -71,15 +72,21 @@ module _ (s : State) (g : Scan) (mask sent counter : ℕ) where
   pub fields-many : length (fieldsOf s g mask sent counter .sectors) ≡ length (activeOf (s .working))
   fields-many = sectors-many mask (s .step .0) (rateOf s) g 0 (arcsOf s) ∙ arcs-many
 
-  pub profile-long : length (layout (fieldsOf s g mask sent counter))
+  -- the contour, whichever its layer
+  pub contour-long : (layer : ℕ)
+      → headLength + length (contour (withLayer layer (fieldsOf s g mask sent counter)))
       ≡ profileLength mask (length (activeOf (s .working))) (total (λ a. a .points) (arcsOf s))
   unfolding profileLength
-  profile-long =
+  contour-long layer =
       let n = arcs-many in
       let e = sectors-long mask (s .step .0) (rateOf s) g 0 (arcsOf s) in
       let t = two-words (bit mask bits.senstat) 0 (modeNumber (s .mode)) in
-      simp (length-append, one-word (bit mask bits.sent) sent, one-word (bit mask bits.counter) counter, one-word (bit mask bits.layer) 0, e, n)
+      simp (length-append, one-word (bit mask bits.sent) sent, one-word (bit mask bits.counter) counter, one-word (bit mask bits.layer) layer, e, n)
       (omega (arith, t))
+
+  pub profile-long : length (layout (fieldsOf s g mask sent counter))
+      ≡ profileLength mask (length (activeOf (s .working))) (total (λ a. a .points) (arcsOf s))
+  profile-long = length-append (head mask (length (fieldsOf s g mask sent counter .sectors))) (contour (fieldsOf s g mask sent counter)) ∙ contour-long 0
 
 -- the number of points goes with the words of points, where it is given or there are none
 counted-body : (mask points : ℕ) → T (not (uncounted mask))
@@ -111,8 +118,8 @@ sectors-fit : (mask step rate : ℕ) (g : Scan) (number : ℕ) (l : List Arc) �
 sectors-fit mask step rate g number [] h = none
 sectors-fit mask step rate g number (a ∷ l) h = this (sector-fits mask step rate g number a h) (sectors-fit mask step rate g (suc number) l h)
 
-pub fields-fit : (s : State) (g : Scan) (mask sent counter : ℕ) → T (not (uncounted mask)) → Fits (fieldsOf s g mask sent counter)
-fields-fit s g mask sent counter h =
+pub fields-fit : (s : State) (g : Scan) (mask layer sent counter : ℕ) → T (not (uncounted mask)) → Fits (withLayer layer (fieldsOf s g mask sent counter))
+fields-fit s g mask layer sent counter h =
     record {
       sent = shaped (bit mask bits.sent) _;
       counter = shaped (bit mask bits.counter) _;

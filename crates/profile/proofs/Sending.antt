@@ -14,8 +14,9 @@ use Rattle.words.specs.Buffers.{Wrote}
 use Rattle.words.proofs.Overs.{over-none}
 use Rattle.words.proofs.Tests.{and-l, and-r}
 use Rattle.units.specs.Directions.{circle, revolutionShots}
-use Rattle.layout.specs.Layout.{layout}
-use Rattle.layout.specs.Lengths.{profileLength}
+use Rattle.layout.specs.declared.Mask.{Mask}
+use Rattle.layout.specs.MixedMasks.{mixedNumber}
+use Rattle.layout.specs.Mixed.{mixedLength}
 use Rattle.plan.specs.declared.Sector.{Sector}
 use Rattle.plan.specs.Sectors.{stopOf, activeOf}
 use Rattle.plan.specs.Shots.{lastStop, shotsOf, arcOf, arcsFrom}
@@ -30,11 +31,14 @@ use Rattle.state.specs.Replies.{delivered, Answered}
 use Rattle.state.proofs.Parts.{parts}
 use Rattle.state.proofs.Measuring.{measures}
 use Rattle.state.proofs.Delivery.{reply, is-refused, no-room, has-room}
-use Rattle.profile.specs.Profiles.{Scan, scan, arcsOf, fieldsOf}
-use Rattle.profile.specs.Revolutions.{risen, turned, profileOf, revolved, listsFit, revolutionRefusal, revolutionOf}
+use Rattle.profile.specs.Profiles.{Scan, scanWith, arcsOf}
+use Rattle.profile.specs.Mixed.{reflectorsGiven}
+use Rattle.profile.specs.Revolutions.{risen, turned, profileBy, profileOf, revolved, listsFit, reflectorsFit, revolutionRefusal, revolutionOf}
+use Rattle.profile.specs.Demands.{lengthBy}
 use Rattle.profile.specs.Asked.{ArcAsked, ProfileAsked, SendAsked, sendOutcome, JobAsked}
 use Rattle.profile.proofs.PointSums.{if-most}
 use Rattle.profile.proofs.ProfileLengths.{profile-long}
+use Rattle.profile.proofs.MixedLengths.{mixed-long, few-words}
 
 -- a job in its ranges can go on
 pub job-asked : (m : Mode) (j : Job) → T (jobOk m j) → JobAsked j
@@ -60,16 +64,35 @@ arcs-asked g step before shot n (s ∷ ss) e few d h =
     }
     (arcs-asked g step (stopOf s) (shot + shotsOf step before s) n ss (omega arith) few d h)
 
--- the length that the code has for a profile of so many words
-abbrev LengthOf : State → ℕ → ℕ → Type 0
-LengthOf s mask n = n ≡ profileLength mask (length (activeOf (s .working))) (total (λ a. a .points) (arcsOf s))
+-- how many words the profile has that a mask asks for
+pub by-long : (s : State) (g : Scan) (mask : Mask) (sent counter : ℕ) → length (profileBy s g mask sent counter) ≡ lengthBy s (g .reflectors) mask
+by-long s g (Mask.Plain word) sent counter = profile-long s g word sent counter
+by-long s g (Mask.Mixed high low) sent counter = mixed-long s g high low sent counter
+
+-- `length_by`, by its two ways out
+module _ (s : State) (l : List ℕ) (mask : Mask) where
+  pub plain-length : (word n : ℕ) → mask ≡ Mask.Plain word → n ≡ lengthBy s l (Mask.Plain word) → n ≡ lengthBy s l mask
+  plain-length word n e h = rw e h
+
+  pub mixed-length : (high low number n : ℕ) → mask ≡ Mask.Mixed high low → number ≡ mixedNumber high low
+      → n ≡ mixedLength number (length (activeOf (s .working))) (total (λ a. a .points) (arcsOf s)) (reflectorsGiven l)
+      → n ≡ lengthBy s l mask
+  mixed-length high low number n e en h = rw (e, ← en) h
+
+-- the number of reflectors is a word
+pub given-fits : (l : List ℕ) → length l ≤ 704 → reflectorsGiven l < 65536
+given-fits l h = omega arith
 
 -- `send`
 module _ {s : State} {g : Scan} (asked : SendAsked s g) where
   pub send-turn : JobAsked (s .job)
   send-turn = job-asked (s .mode) (s .job) (parts s (asked .range) .job)
 
-  pub profile-asked : (mask sent counter n : ℕ) (d : List ℕ) → LengthOf s mask n → n ≤ length d → ProfileAsked s g mask sent counter d
+  pub few-reflectors : length (g .reflectors) ≤ 704
+  few-reflectors = few-words g (asked .reflectors)
+
+  pub profile-asked : (mask : Mask) (sent counter n : ℕ) (d : List ℕ) → n ≡ lengthBy s (g .reflectors) mask → n ≤ length d
+      → ProfileAsked s g mask sent counter d
   profile-asked mask sent counter n d en h =
       let m = measures s (asked .range) (asked .measures) (asked .eight) in
       let step = s .step .0 in
@@ -82,66 +105,69 @@ module _ {s : State} {g : Scan} (asked : SendAsked s g) where
         eight = asked .eight;
         arcs-in =
             arcs-asked g step (lastStop 0 ss) 0 shots ss (omega (arith, all)) (div-le-self circle step) (eqb→eq _ shots ds) (eqb→eq _ shots es);
-        room = rw (profile-long s g mask sent counter, ← en) h;
+        few = few-reflectors;
+        room = rw (by-long s g mask sent counter, ← en) h;
       }
 
-  module _ (mask sent n : ℕ) (en : LengthOf s mask n) where
+  module _ (mask : Mask) (sent n : ℕ) (en : n ≡ lengthBy s (g .reflectors) mask) where
     long : length (sendOutcome s g mask sent .words) ≡ n
-    long = profile-long s g mask sent (risen (s .counter)) ∙ sym en
+    long = by-long s g mask sent (risen (s .counter)) ∙ sym en
 
     pub sends-none : {d : List ℕ} → length d < n → Answered (reply s 6 0) d d (delivered s (sendOutcome s g mask sent) (length d))
     sends-none {d} h = no-room s (sendOutcome s g mask sent) d n long h
 
     pub sends : {next : State} {counter r : ℕ} {d d' : List ℕ} → next ≡ turned s → counter ≡ risen (s .counter) → n ≤ length d
-        → Wrote (layout (fieldsOf s g mask sent counter)) d d' r
+        → Wrote (profileBy s g mask sent counter) d d' r
         → Answered (reply next 0 r) d d' (delivered s (sendOutcome s g mask sent) (length d))
     sends {counter = counter} {r = r} {d = d} {d' = d'} e ec h w =
-        let v : Wrote (layout (fieldsOf s g mask sent (risen (s .counter)))) d d' r = rw ec at w in
+        let v : Wrote (profileBy s g mask sent (risen (s .counter))) d d' r = rw ec at w in
         let l : r ≡ n = v .counted ∙ long in
         rw (e, l) (has-room s (sendOutcome s g mask sent) d n long h d' (v .words))
 
 -- `revolution`
-module _ (s : State) (ds es : List ℕ) (start n : ℕ) (en : n ≡ revolutionRefusal s (scan 0 ds es)) where
-  same : n ≡ revolutionRefusal s (scan start ds es)
+module _ (s : State) (ds es rs : List ℕ) (start n : ℕ) (en : n ≡ revolutionRefusal s (scanWith 0 ds es rs)) where
+  same : n ≡ revolutionRefusal s (scanWith start ds es rs)
   unfolding revolutionRefusal
   same = en
 
-  pub refuses : {d : List ℕ} → (n ≡ 0 → ⊥) → Answered (reply s n 0) d d (revolutionOf s (scan start ds es) (length d))
+  pub refuses : {d : List ℕ} → (n ≡ 0 → ⊥) → Answered (reply s n 0) d d (revolutionOf s (scanWith start ds es rs) (length d))
   unfolding revolutionOf
   refuses {d} h = rw (← same, ne-eqb n 0 h) (is-refused s n d)
 
   module _ (z : n ≡ 0) where
-    goes-on : (room : ℕ) → revolutionOf s (scan start ds es) room ≡ delivered s (revolved s (scan start ds es)) room
+    goes-on : (room : ℕ) → revolutionOf s (scanWith start ds es rs) room ≡ delivered s (revolved s (scanWith start ds es rs)) room
     unfolding revolutionOf
     goes-on room = rw (← same, eq-eqb n 0 z)
 
-    pub accepted : length (s .working .sectors) ≡ 8 → SendAsked s (scan start ds es)
+    pub accepted : length (s .working .sectors) ≡ 8 → SendAsked s (scanWith start ds es rs)
     unfolding revolutionRefusal
     accepted eight =
-        let t = tests (inRange s) (isMeasure (s .mode)) (listsFit s (scan start ds es)) (sym en ∙ z) in
-        record { eight = eight; range = t .0; measures = t .1; lists = t .2 }
+        let t = tests (inRange s) (isMeasure (s .mode)) (listsFit s (scanWith start ds es rs)) (reflectorsFit (scanWith start ds es rs)) (sym en ∙ z) in
+        record { eight = eight; range = t .0; measures = t .1; lists = t .2; reflectors = t .3 }
       where
-        tests : (a b c : Bool) → _≡_ {A = ℕ} (if not a then 1 else if not b then 7 else if not c then 8 else 0) 0 → T a × T b × T c
-        tests true true true e = (tt, tt, tt)
-        tests true true false e = absurd (omega arith)
-        tests true false c e = absurd (omega arith)
-        tests false b c e = absurd (omega arith)
+        tests : (a b c d : Bool) → _≡_ {A = ℕ} (if not a then 1 else if not b then 7 else if not c then 8 else if not d then 27 else 0) 0
+            → T a × T b × T c × T d
+        tests true true true true e = (tt, tt, tt, tt)
+        tests true true true false e = absurd (omega arith)
+        tests true true false d e = absurd (omega arith)
+        tests true false c d e = absurd (omega arith)
+        tests false b c d e = absurd (omega arith)
 
     module _ {d : List ℕ} where
       pub no-profile : s .job ≡ Absent → {next : State} → next ≡ turned s
-          → Answered (reply next 0 0) d d (revolutionOf s (scan start ds es) (length d))
+          → Answered (reply next 0 0) d d (revolutionOf s (scanWith start ds es rs) (length d))
       unfolding revolved
       no-profile j e =
-          let w : profileOf s (scan start ds es) (s .job) ≡ [] = ap (λ (x : Job). profileOf s (scan start ds es) x) j in
-          rw (goes-on, e) (has-room s (revolved s (scan start ds es)) d 0 (ap length w) (omega arith) d (rw w (sym (over-none d))))
+          let w : profileOf s (scanWith start ds es rs) (s .job) ≡ [] = ap (λ (x : Job). profileOf s (scanWith start ds es rs) x) j in
+          rw (goes-on, e) (has-room s (revolved s (scanWith start ds es rs)) d 0 (ap length w) (omega arith) d (rw w (sym (over-none d))))
 
-      module _ {r : Reply} {d' : List ℕ} (mask sent sent' : ℕ)
-          (sends : Answered r d d' (delivered s (sendOutcome s (scan start ds es) mask sent') (length d))) where
+      module _ {r : Reply} {d' : List ℕ} (mask : Mask) (sent sent' : ℕ)
+          (sends : Answered r d d' (delivered s (sendOutcome s (scanWith start ds es rs) mask sent') (length d))) where
         pub counted-profile : {left : ℕ} → s .job ≡ Counted left mask sent → sent' ≡ sent + 1
-            → Answered r d d' (revolutionOf s (scan start ds es) (length d))
+            → Answered r d d' (revolutionOf s (scanWith start ds es rs) (length d))
         unfolding revolved
         counted-profile j e = rw (goes-on, j) (rw (e, j) at sends)
 
-        pub endless-profile : s .job ≡ Endless mask sent → sent' ≡ risen sent → Answered r d d' (revolutionOf s (scan start ds es) (length d))
+        pub endless-profile : s .job ≡ Endless mask sent → sent' ≡ risen sent → Answered r d d' (revolutionOf s (scanWith start ds es rs) (length d))
         unfolding revolved
         endless-profile j e = rw (goes-on, j) (rw (e, j) at sends)

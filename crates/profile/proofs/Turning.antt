@@ -1,12 +1,14 @@
 -- The ways out of `job_after`, `turn` and `revolution_refusal`, over what the callees ensure.
 use mathlib.Core.Path.{_≡_, _∙_}
 use mathlib.Core.Bool.{Bool, true, false, not}
-use Prim.Native.Nat.{ℕ, _+_, _-_, _≤_, _<_}
+use Prim.Native.Nat.{ℕ, _+_, _-_, _/_, _%_, _≤_, _<_}
 use native.Mathlib.Omega.{arith}
 use lib.ListN.{length}
-use borrow.Author.Tests.{eq-eqb, ne-eqb}
+use borrow.Author.Tests.{eq-eqb, ne-eqb, le-leb, lt-leb}
 use Rattle.words.proofs.Tests.{said-no, said-yes}
 use Rattle.units.specs.Directions.{revolutionShots}
+use Rattle.layout.specs.declared.Mask.{Mask}
+use Rattle.layout.specs.MixedMasks.{reflectorLength, mostReflectors}
 use Rattle.state.specs.declared.State.{State}
 use Rattle.state.specs.declared.Job.{Job}
 use Rattle.state.specs.declared.Job.the-variants.{Absent, Counted, Endless}
@@ -14,17 +16,17 @@ use Rattle.state.specs.Fields.{withDrive, withCounter}
 use Rattle.state.specs.Ranges.{isMeasure, inRange}
 use Rattle.profile.specs.Profiles.{Scan}
 use Rattle.profile.specs.Asked.{JobAsked}
-use Rattle.profile.specs.Revolutions.{risen, jobAfter, turned, revolutionRefusal}
+use Rattle.profile.specs.Revolutions.{risen, jobAfter, turned, listsFit, revolutionRefusal}
 
 -- `job_after`
 module _ (job : Job) where
   pub no-job : job ≡ Absent → Absent ≡ jobAfter job
   no-job j = rw j
 
-  pub endless-goes : (mask sent n : ℕ) → job ≡ Endless mask sent → n ≡ risen sent → Endless mask n ≡ jobAfter job
+  pub endless-goes : (mask : Mask) (sent n : ℕ) → job ≡ Endless mask sent → n ≡ risen sent → Endless mask n ≡ jobAfter job
   endless-goes mask sent n j e = rw (j, e)
 
-  module _ (left mask sent : ℕ) (j : job ≡ Counted left mask sent) where
+  module _ (left : ℕ) (mask : Mask) (sent : ℕ) (j : job ≡ Counted left mask sent) where
     pub job-ends : left ≡ 1 → Absent ≡ jobAfter job
     job-ends h = rw (j, eq-eqb _ _ h)
 
@@ -69,6 +71,19 @@ module _ (s : State) (g : Scan) (a : Bool) (ea : a ≡ inRange s) where
       unfolding revolutionRefusal
       no-echoes d h = rw (said-yes ea qa, said-yes eb qb, ← en, eq-eqb _ _ d, ne-eqb _ _ h)
 
-      pub none-refuses : length (g .distances) ≡ n → length (g .echoes) ≡ n → 0 ≡ revolutionRefusal s g
-      unfolding revolutionRefusal
-      none-refuses d h = rw (said-yes ea qa, said-yes eb qb, ← en, eq-eqb _ _ d, eq-eqb _ _ h)
+      module _ (d : length (g .distances) ≡ n) (h : length (g .echoes) ≡ n) where
+        fitting : listsFit s g ≡ true
+        fitting = rw (← en, eq-eqb _ _ d, eq-eqb _ _ h)
+
+        pub part-left : (length (g .reflectors) % reflectorLength ≡ 0 → ⊥) → 27 ≡ revolutionRefusal s g
+        unfolding revolutionRefusal
+        part-left l = rw (said-yes ea qa, said-yes eb qb, fitting, ne-eqb _ _ l)
+
+        module _ (whole : length (g .reflectors) % reflectorLength ≡ 0) where
+          pub too-many : mostReflectors < length (g .reflectors) / reflectorLength → 27 ≡ revolutionRefusal s g
+          unfolding revolutionRefusal
+          too-many l = rw (said-yes ea qa, said-yes eb qb, fitting, eq-eqb _ _ whole, lt-leb _ _ l)
+
+          pub none-refuses : length (g .reflectors) / reflectorLength ≤ mostReflectors → 0 ≡ revolutionRefusal s g
+          unfolding revolutionRefusal
+          none-refuses l = rw (said-yes ea qa, said-yes eb qb, fitting, eq-eqb _ _ whole, le-leb _ _ l)

@@ -7,7 +7,9 @@ use lib.ListN.{length}
 use Rattle.words.specs.Lists.{Each}
 use Rattle.words.specs.Words.{laidAll}
 use Rattle.layout.specs.Bits as bits
-use Rattle.layout.specs.Layout.{layoutSector, layout}
+use Rattle.layout.specs.declared.Mask.{Mask}
+use Rattle.layout.specs.Fields.{Fields}
+use Rattle.layout.specs.Layout.{layoutSector, contour}
 use Rattle.plan.specs.declared.Arc.{Arc}
 use Rattle.plan.specs.declared.Plan.{Plan}
 use Rattle.plan.specs.Sectors.{activeOf}
@@ -19,7 +21,8 @@ use Rattle.state.specs.Ranges.{isMeasure, inRange}
 use Rattle.state.specs.Replies.{Outcome}
 use Rattle.profile.specs.Points.{selected}
 use Rattle.profile.specs.Profiles.{Scan, pointsOf, sectorOf, sectorsOf, arcsOf, fieldsOf}
-use Rattle.profile.specs.Revolutions.{risen, turned, listsFit}
+use Rattle.profile.specs.Mixed.{withLayer, reflectorsGiven, reflectorsOf}
+use Rattle.profile.specs.Revolutions.{risen, profileBy, turned, listsFit, reflectorsFit}
 
 -- the words of a sector before its points, and behind them
 abbrev pub openingWords : ℕ → ℕ → ℕ → ℕ → ℕ → ℕ → List ℕ
@@ -34,8 +37,8 @@ abbrev pub closingWords : ℕ → ℕ → ℕ → List ℕ
 closingWords mask tend enddir = selected mask bits.tend tend ++ selected mask bits.enddir enddir
 
 -- the words of a profile between its head and its sectors, and behind them
-abbrev pub frontWords : ℕ → ℕ → ℕ → List ℕ
-frontWords mask sent counter = selected mask bits.sent sent ++ selected mask bits.counter counter ++ selected mask bits.layer 0
+abbrev pub frontWords : ℕ → ℕ → ℕ → ℕ → List ℕ
+frontWords mask sent counter layer = selected mask bits.sent sent ++ selected mask bits.counter counter ++ selected mask bits.layer layer
 
 abbrev pub statusWords : ℕ → ℕ → List ℕ
 statusWords mask status = selected mask bits.senstat 0 ++ selected mask bits.senstat status
@@ -66,10 +69,25 @@ pub record SectorsAsked (mask step rate : ℕ) (g : Scan) (p : Plan) (from : ℕ
   pub arcs-in : Each (ArcAsked g) (arcs step (activeOf p))
   pub room : from + length (sectorsWords mask step rate g p) ≤ length out
 
-pub record ProfileAsked (s : State) (g : Scan) (mask sent counter : ℕ) (out : List ℕ) : Type 0 where
+-- the contour of a profile of either kind: its fields, its words, and what is asked for it from a place on
+abbrev pub contourFields : State → Scan → ℕ → ℕ → ℕ → ℕ → Fields
+contourFields s g mask layer sent counter = withLayer layer (fieldsOf s g mask sent counter)
+
+pub record ContourAsked (s : State) (g : Scan) (mask layer sent counter from : ℕ) (out : List ℕ) : Type 0 where
   pub eight : length (s .working .sectors) ≡ 8
   pub arcs-in : Each (ArcAsked g) (arcsOf s)
-  pub room : length (layout (fieldsOf s g mask sent counter)) ≤ length out
+  pub room : from + length (contour (contourFields s g mask layer sent counter)) ≤ length out
+
+-- the reflectors of a list, and the words behind a contour: how many there are, and theirs
+abbrev pub reflectorPartOf : ℕ → List ℕ → List ℕ
+reflectorPartOf mask l = selected mask bits.reflectors (reflectorsGiven l) ++ reflectorsOf mask l
+
+-- a profile by a mask, of which each arc's shots are in the lists
+pub record ProfileAsked (s : State) (g : Scan) (mask : Mask) (sent counter : ℕ) (out : List ℕ) : Type 0 where
+  pub eight : length (s .working .sectors) ≡ 8
+  pub arcs-in : Each (ArcAsked g) (arcsOf s)
+  pub few : length (g .reflectors) ≤ 704
+  pub room : length (profileBy s g mask sent counter) ≤ length out
 
 -- a state in its ranges and in MEASURE, and lists that fit
 pub record SendAsked (s : State) (g : Scan) : Type 0 where
@@ -77,10 +95,11 @@ pub record SendAsked (s : State) (g : Scan) : Type 0 where
   pub range : T (inRange s)
   pub measures : T (isMeasure (s .mode))
   pub lists : T (listsFit s g)
+  pub reflectors : T (reflectorsFit g)
 
 -- what a job's profile does
-abbrev pub sendOutcome : State → Scan → ℕ → ℕ → Outcome
-sendOutcome s g mask sent = record { after = turned s; words = layout (fieldsOf s g mask sent (risen (s .counter))) }
+abbrev pub sendOutcome : State → Scan → Mask → ℕ → Outcome
+sendOutcome s g mask sent = record { after = turned s; words = profileBy s g mask sent (risen (s .counter)) }
 
 -- a counted job that can go on: some left, and its number sent can rise
 abbrev pub JobAsked : Job → Type 0

@@ -1,9 +1,9 @@
 -- What is promised of revolutions, as statements. The proofs stand in proofs/Revolved.antt, Carried.antt, AllShots.antt, Timed.antt and
 -- PointByPoint.antt.
 use mathlib.Core.Path.{_≡_}
-use mathlib.Core.Bool.{not}
+use mathlib.Core.Bool.{not, _||_}
 use mathlib.Core.List.{List, [], _∷_, _++_}
-use Prim.Native.Nat.{ℕ, suc, _+_, _≤_, _<_}
+use Prim.Native.Nat.{ℕ, suc, _+_, _/_, _%_, _≤_, _<_}
 use lib.Dec.{T, ltb, eqb}
 use lib.ListN.{length, getD, drop}
 use Rattle.words.specs.Choice.{if_then_else_}
@@ -16,20 +16,25 @@ use Rattle.units.specs.Directions.{stepsPast}
 use Rattle.units.specs.Demands.{Rounded}
 use Rattle.layout.specs.Bits as bits
 use Rattle.layout.specs.Masks.{maskOk, uncounted}
+use Rattle.layout.specs.declared.Kind.{Kind}
+use Rattle.layout.specs.declared.Mask.{Mask}
+use Rattle.layout.specs.MixedMasks.{mixedNumber, mixedOk}
 use Rattle.layout.specs.Fields.{SectorFields}
 use Rattle.layout.specs.Layout.{Acceptable}
 use Rattle.layout.specs.Lengths.{profileLength, greatestLength}
+use Rattle.layout.specs.Mixed.{MixedAcceptable, mixedLength, greatestMixed}
 use Rattle.plan.specs.declared.Arc.{Arc}
 use Rattle.plan.specs.Sectors.{activeOf}
 use Rattle.plan.specs.Shots.{Shot, arcAt, runOf}
 use Rattle.plan.specs.Demands.{noShot}
 use Rattle.state.specs.declared.State.{State}
-use Rattle.state.specs.Jobs.{jobNumbers, isJob}
+use Rattle.state.specs.Jobs.{maskOf, hasKind, isJob}
 use Rattle.state.specs.Ranges.{isMeasure, inRange}
 use Rattle.state.specs.Replies.{Unchanged}
 use Rattle.profile.specs.Points.{selected, pointWords}
-use Rattle.profile.specs.Profiles.{Scan, pointsOf, sectorOf, arcsOf, rateOf, fieldsOf}
-use Rattle.profile.specs.Revolutions.{revolved, listsFit, revolutionOf}
+use Rattle.profile.specs.Profiles.{Scan, scan, pointsOf, sectorOf, arcsOf, rateOf, fieldsOf}
+use Rattle.profile.specs.Mixed.{reflectorsGiven, mixedOf}
+use Rattle.profile.specs.Revolutions.{revolved, listsFit, reflectorsFit, revolutionOf}
 
 -- Demand 1: a refusal changes nothing (rule 6.2)
 abbrev pub RefusalsChangeNothing : Type 0
@@ -38,12 +43,13 @@ RefusalsChangeNothing =
     → Unchanged s before (revolutionOf s g (length before))
 
 -- a revolution's numbers in their order, each beside what it is due for: a field of the state is out of its range; the head does not
--- measure; a list is not one word a shot; the room is less than the profile (rule 6.1)
+-- measure; a list is not one word a shot; there are too many reflectors, or a part of one; the room is less than the profile (rule 6.1)
 abbrev pub numbersForNo : State → Scan → ℕ → List No
 numbersForNo s g room =
     no 1 (not (inRange s))
     ∷ no 7 (not (isMeasure (s .mode)))
     ∷ no 8 (not (listsFit s g))
+    ∷ no 27 (ltb 64 (length (g .reflectors) / 11) || not (eqb (length (g .reflectors) % 11) 0))
     ∷ no 6 (ltb room (length (revolved s g .words)))
     ∷ []
 
@@ -55,18 +61,20 @@ RefusalsExactly = (s : State) (g : Scan) (room : ℕ) → revolutionOf s g room 
 abbrev pub RangesKept : Type 0
 RangesKept = (s : State) (g : Scan) (room : ℕ) → T (inRange s) → T (inRange (revolutionOf s g room .reply .state))
 
--- how many words a revolution sends: none without a job, else what the formula says of the job's mask, the active sectors and the points
--- (rule 5.8)
-abbrev pub sentLength : State → ℕ
-sentLength s =
-    if isJob (s .job)
-    then profileLength (jobNumbers (s .job) .mask) (length (activeOf (s .working))) (total (λ a. a .points) (arcsOf s))
-    else 0
+-- what the formula of its kind says of a mask, the active sectors, the points and the reflectors (rules 5.8 and 5.20)
+abbrev pub lengthBy : State → List ℕ → Mask → ℕ
+lengthBy s reflectors (Mask.Plain word) = profileLength word (length (activeOf (s .working))) (total (λ a. a .points) (arcsOf s))
+lengthBy s reflectors (Mask.Mixed high low) =
+    mixedLength (mixedNumber high low) (length (activeOf (s .working))) (total (λ a. a .points) (arcsOf s)) (reflectorsGiven reflectors)
+
+-- how many words a revolution sends: none without a job, else what the formula says of the job's mask (rules 5.8 and 5.20)
+abbrev pub sentLength : State → Scan → ℕ
+sentLength s g = if isJob (s .job) then lengthBy s (g .reflectors) (maskOf (s .job)) else 0
 
 -- it is so for every mask; and where a revolution is not refused, it is what is counted (rule 5.8)
 pub record Sends (s : State) (g : Scan) : Type 0 where
-  pub words : length (revolved s g .words) ≡ sentLength s
-  pub counted : (room : ℕ) → revolutionOf s g room .reply .refusal ≡ 0 → revolutionOf s g room .reply .count ≡ sentLength s
+  pub words : length (revolved s g .words) ≡ sentLength s g
+  pub counted : (room : ℕ) → revolutionOf s g room .reply .refusal ≡ 0 → revolutionOf s g room .reply .count ≡ sentLength s g
 
 abbrev pub SentLength : Type 0
 SentLength = (s : State) (g : Scan) → Sends s g
@@ -77,16 +85,27 @@ pub record Turning (s : State) (g : Scan) : Type 0 where
   pub range : T (inRange s)
   pub measures : T (isMeasure (s .mode))
   pub lists : T (listsFit s g)
+  pub reflectors : T (reflectorsFit g)
 
--- no profile is longer than the longest (rule 5.8)
+-- no plain profile is longer than the longest plain one (rule 5.8)
 abbrev pub NeverLonger : Type 0
-NeverLonger = (s : State) (g : Scan) → Turning s g → length (revolved s g .words) ≤ greatestLength
+NeverLonger = (s : State) (g : Scan) → Turning s g → T (not (hasKind Kind.Mixed (s .job))) → length (revolved s g .words) ≤ greatestLength
+
+-- and none of either kind longer than the longest mixed one (rule 5.20)
+abbrev pub MixedNeverLonger : Type 0
+MixedNeverLonger = (s : State) (g : Scan) → Turning s g → length (revolved s g .words) ≤ greatestMixed
 
 -- the fields of a profile are such as the reader takes, where the mask carries what it needs (rule 5.10)
 abbrev pub SentAcceptable : Type 0
 SentAcceptable =
     (s : State) (g : Scan) → Turning s g → (mask sent counter : ℕ) → T (maskOk mask) → T (not (uncounted mask))
     → Acceptable (fieldsOf s g mask sent counter)
+
+-- and so are those of a mixed profile (rule 5.22)
+abbrev pub MixedSentAcceptable : Type 0
+MixedSentAcceptable =
+    (s : State) (g : Scan) → Turning s g → (high low sent counter : ℕ) → T (mixedOk (mixedNumber high low))
+    → T (not (uncounted (mixedNumber high low))) → MixedAcceptable (mixedOf s g high low sent counter)
 
 -- the words of the run's shot k: its direction, and the lists' words at that shot (rule 5.6)
 abbrev pub shotWords : ℕ → State → Scan → ℕ → List ℕ
@@ -122,6 +141,20 @@ AllPoints =
     (s : State) (g : Scan) (mask sent counter : ℕ)
     → laidAll (λ f. f .body) (fieldsOf s g mask sent counter .sectors) ≡ measuredFrom mask g 0 (runOf (s .step .0) (s .working))
 
+-- the same of a mixed profile, by its mask's number (rule 5.19)
+abbrev pub MixedPointsAreShots : Type 0
+MixedPointsAreShots =
+    (s : State) (g : Scan) (high low sent counter place : ℕ) → place < length (activeOf (s .working))
+    → (other : SectorFields)
+    → CarriesShots s g (mixedNumber high low) place (arcAt (s .working) (s .step .0) place)
+    (getD (mixedOf s g high low sent counter .contour .sectors) place other)
+
+abbrev pub MixedAllPoints : Type 0
+MixedAllPoints =
+    (s : State) (g : Scan) (high low sent counter : ℕ)
+    → laidAll (λ f. f .body) (mixedOf s g high low sent counter .contour .sectors)
+    ≡ measuredFrom (mixedNumber high low) g 0 (runOf (s .step .0) (s .working))
+
 -- every shot of a revolution that is taken has the time of its nearest millisecond (rule 3.7)
 abbrev pub NearestTimes : Type 0
 NearestTimes = (s : State) (g : Scan) → Turning s g → Rounded (rateOf s)
@@ -138,11 +171,11 @@ abbrev pub twoPoints : Arc
 twoPoints = record { function = 3; first = record { 0 = 16 }; last = record { 0 = 24 }; shot = 0; shots = 2; points = 2 }
 
 abbrev pub twoShots : Scan
-twoShots = record { start = 0; distances = 1 ∷ 2 ∷ []; echoes = 3 ∷ 4 ∷ [] }
+twoShots = scan 0 (1 ∷ 2 ∷ []) (3 ∷ 4 ∷ [])
 
 -- the same shots, each with the echo of the one behind it (rule 5.6)
 abbrev pub laterEchoes : Scan → Scan
-laterEchoes g = record { start = g .start; distances = g .distances; echoes = drop 1 (g .echoes) }
+laterEchoes g = scan (g .start) (g .distances) (drop 1 (g .echoes))
 
 -- no writer of blocks meets the contract of the writer of points (rule 5.6)
 abbrev pub NotAsBlocks : Type 0

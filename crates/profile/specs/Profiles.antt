@@ -16,14 +16,20 @@ use Rattle.state.specs.declared.State.{State}
 use Rattle.state.specs.Modes.{modeNumber}
 use Rattle.profile.specs.Points.{pointWords}
 
--- a scan, what a revolution's caller hands in: the start time, and the words of distance and echo by shot (rule 5.1)
+-- a scan, what a revolution's caller hands in: the start time, the words of distance and echo by shot, and those of the reflectors (rule 5.1)
 pub record Scan : Type 0 where
   pub start : ℕ
   pub distances : List ℕ
   pub echoes : List ℕ
+  pub reflectors : List ℕ
+
+-- the scan of these; and one without reflectors, for what goes by shots alone (rule 5.1)
+abbrev pub scanWith : ℕ → List ℕ → List ℕ → List ℕ → Scan
+scanWith start distances echoes reflectors =
+    record { start = start; distances = distances; echoes = echoes; reflectors = reflectors }
 
 abbrev pub scan : ℕ → List ℕ → List ℕ → Scan
-scan start distances echoes = record { start = start; distances = distances; echoes = echoes }
+scan start distances echoes = scanWith start distances echoes []
 
 -- point i of an arc, i steps past its first direction: the lists' words at that shot (rule 5.6)
 abbrev pub pointAt : ℕ → ℕ → Scan → Arc → ℕ → List ℕ

@@ -1,7 +1,9 @@
-// A revolution of the sensor, and the profile that it may send.
+// A revolution of the sensor, and the profile, plain or mixed, that it may send.
+mod mixed;
 mod points;
 mod profiles;
 mod puts;
+mod reflectors;
 mod revolutions;
 mod sectors;
 

@@ -1,4 +1,4 @@
-// A whole profile: its length, and its words.
+// A whole plain profile: its length, and its words. The contour is a mixed profile's too.
 ghost use mathlib.Core.Path.{_≡_};
 ghost use Prim.Native.Nat.{_+_, _≤_};
 ghost use lib.ListN.{length};
@@ -6,13 +6,15 @@ ghost use Rattle.words.specs.Lists.{total};
 ghost use Rattle.words.specs.Buffers.{Put, Wrote};
 ghost use Rattle.plan.specs.Sectors.{activeOf};
 ghost use Rattle.plan.specs.Shots.{arcs};
-ghost use Rattle.layout.specs.Layout.{head, headLength, layout};
+ghost use Rattle.layout.specs.declared.Mask.{Mask};
+ghost use Rattle.layout.specs.Layout.{head, headLength, contour, layout};
 ghost use Rattle.layout.specs.Lengths.{profileLength};
 ghost use Rattle.profile.specs.Profiles.{scan, fieldsOf};
-ghost use Rattle.profile.specs.Asked.{frontWords, statusWords, ProfileAsked};
+ghost use Rattle.profile.specs.Asked.{frontWords, statusWords, contourFields, ContourAsked, ProfileAsked};
 use crate::puts::put_selected;
 use crate::sectors::write_sectors;
 use layout::ONE_LAYER;
+use layout::PLAIN_LAYER;
 use layout::PROFILE_CODE;
 use layout::bits;
 use plan::Plan;
@@ -21,7 +23,7 @@ use units::Angle;
 use units::Time;
 
 // The points of all sectors of a plan (rule 5.8).
-fn plan_points(plan: Plan, step: Angle) -> u16
+pub(crate) fn plan_points(plan: Plan, step: Angle) -> u16
     ensures { λ r. ⌜ r ≡ total (λ a. a .points) (arcs (step .0) (activeOf plan)) ⌝ }
 {
     let count = plan::active_count(plan);
@@ -56,13 +58,13 @@ fn put_head(out: &mut [u16], mask: u16, sectors: u16) -> usize
 }
 
 // The selected words before the sectors, at a place; the place behind them (rule 5.5).
-fn put_front(out: &mut [u16], at: usize, mask: u32, sent: u16, counter: u16) -> usize
-    requires { ⌜ at + length (frontWords mask sent counter) ≤ length (now out) ⌝ }
-    ensures { λ r. ⌜ Put (frontWords mask sent counter) (now (out .entry)) at (now (out .exit)) r ⌝ }
+fn put_front(out: &mut [u16], at: usize, mask: u32, sent: u16, counter: u16, layer: u16) -> usize
+    requires { ⌜ at + length (frontWords mask sent counter layer) ≤ length (now out) ⌝ }
+    ensures { λ r. ⌜ Put (frontWords mask sent counter layer) (now (out .entry)) at (now (out .exit)) r ⌝ }
 {
     let a = put_selected(out, at, mask, bits::SENT, sent);
     let b = put_selected(out, a, mask, bits::COUNTER, counter);
-    put_selected(out, b, mask, bits::LAYER, 0)
+    put_selected(out, b, mask, bits::LAYER, layer)
 }
 
 // SENSTAT behind the sectors, at a place; the place behind it (rule 5.5).
@@ -74,7 +76,34 @@ fn put_status(out: &mut [u16], at: usize, mask: u32, status: u16) -> usize
     put_selected(out, a, mask, bits::SENSTAT, status)
 }
 
-// The profile of a revolution over the front of the buffer; how many words it has (rule 5.5).
+// All that goes by bits 0 to 13 of a mask, at a place; the place behind it (rules 5.5 and 5.19).
+pub(crate) fn write_contour(
+    out: &mut [u16],
+    from: usize,
+    state: State,
+    start: Time,
+    distances: &[u16],
+    echoes: &[u16],
+    mask: u32,
+    layer: u16,
+    sent: u16,
+    counter: u16,
+) -> usize
+    requires { ⌜ ContourAsked state (scan (start .0) (now distances) (now echoes)) mask layer sent counter from (now out) ⌝ }
+    ensures { λ r. ⌜ Put (contour (contourFields state (scan (start .0) (now (distances .entry)) (now (echoes .entry))) mask layer sent counter))
+        (now (out .entry)) from (now (out .exit)) r ⌝ }
+{
+    let plan = state.working;
+    let step = state.step;
+    let mode = state.mode;
+    let rate = words::product(state.running, units::revolution_shots(step));
+    let status = state::mode_number(mode);
+    let a = put_front(out, from, mask, sent, counter, layer);
+    let b = write_sectors(out, a, distances, echoes, start, rate, plan, step, mask);
+    put_status(out, b, mask, status)
+}
+
+// The plain profile of a revolution over the front of the buffer; how many words it has (rule 5.5).
 pub(crate) fn write_profile(
     out: &mut [u16],
     state: State,
@@ -85,19 +114,23 @@ pub(crate) fn write_profile(
     sent: u16,
     counter: u16,
 ) -> usize
-    requires { ⌜ ProfileAsked state (scan (start .0) (now distances) (now echoes)) mask sent counter (now out) ⌝ }
+    requires { ⌜ ProfileAsked state (scan (start .0) (now distances) (now echoes)) (Mask.Plain mask) sent counter (now out) ⌝ }
     ensures { λ r. ⌜ Wrote (layout (fieldsOf state (scan (start .0) (now (distances .entry)) (now (echoes .entry))) mask sent counter))
         (now (out .entry)) (now (out .exit)) r ⌝ }
 {
     let plan = state.working;
-    let step = state.step;
-    let mode = state.mode;
-    let chosen = mask as u32;
     let count = plan::active_count(plan);
-    let rate = words::product(state.running, units::revolution_shots(step));
-    let status = state::mode_number(mode);
     let a = put_head(out, mask, count as u16);
-    let b = put_front(out, a, chosen, sent, counter);
-    let c = write_sectors(out, b, distances, echoes, start, rate, plan, step, chosen);
-    put_status(out, c, chosen, status)
+    write_contour(
+        out,
+        a,
+        state,
+        start,
+        distances,
+        echoes,
+        mask as u32,
+        PLAIN_LAYER,
+        sent,
+        counter,
+    )
 }

@@ -1,12 +1,20 @@
-// One revolution: refusals 1, 7, 8 and 6 in their order, the profile written last.
+// One revolution: refusals 1, 7, 8, 27 and 6 in their order, the profile written last.
 ghost use mathlib.Core.Path.{_≡_};
 ghost use lib.ListN.{length};
 ghost use Rattle.state.specs.Replies.{Answered, delivered};
-ghost use Rattle.profile.specs.Profiles.{scan};
-ghost use Rattle.profile.specs.Asked.{JobAsked, SendAsked, sendOutcome};
-ghost use Rattle.profile.specs.Revolutions.{risen, jobAfter, turned, revolutionRefusal, RevolutionSays};
+ghost use Prim.Native.Nat.{_≤_};
+ghost use Rattle.words.specs.Buffers.{Wrote};
+ghost use Rattle.profile.specs.Profiles.{scanWith};
+ghost use Rattle.profile.specs.Asked.{JobAsked, ProfileAsked, SendAsked, sendOutcome};
+ghost use Rattle.profile.specs.Demands.{lengthBy};
+ghost use Rattle.profile.specs.Revolutions.{risen, jobAfter, profileBy, turned, revolutionRefusal, RevolutionSays};
+use crate::mixed::plan_mixed_length;
+use crate::mixed::write_mixed;
 use crate::profiles::plan_length;
 use crate::profiles::write_profile;
+use layout::MOST_REFLECTORS;
+use layout::Mask;
+use layout::REFLECTOR;
 use state::Job;
 use state::Mode;
 use state::Reply;
@@ -55,9 +63,9 @@ fn turn(state: State) -> State
     state::with_counter(driven, risen_by_one(state.counter))
 }
 
-// Refusals 1, 7 and 8, 0 for none (rule 6.1).
-fn revolution_refusal(state: State, distances: &[u16], echoes: &[u16]) -> u16
-    ensures { λ r. ⌜ r ≡ revolutionRefusal state (scan 0 (now (distances .entry)) (now (echoes .entry))) ⌝ }
+// Refusals 1, 7, 8 and 27, 0 for none (rule 6.1).
+fn revolution_refusal(state: State, distances: &[u16], echoes: &[u16], reflectors: &[u16]) -> u16
+    ensures { λ r. ⌜ r ≡ revolutionRefusal state (scanWith 0 (now (distances .entry)) (now (echoes .entry)) (now (reflectors .entry))) ⌝ }
 {
     if !state::in_range(state) {
         return 1;
@@ -74,7 +82,73 @@ fn revolution_refusal(state: State, distances: &[u16], echoes: &[u16]) -> u16
     if echoes.len() != shots {
         return 8;
     }
+    if reflectors.len() % REFLECTOR != 0 {
+        return 27;
+    }
+    if MOST_REFLECTORS < reflectors.len() / REFLECTOR {
+        return 27;
+    }
     0
+}
+
+// The length of the profile that a mask asks for, of its kind (rules 5.8 and 5.20).
+fn length_by(state: State, mask: Mask, reflectors: &[u16]) -> usize
+    requires { ⌜ length (now reflectors) ≤ 704 ⌝ }
+    ensures { λ r. ⌜ r ≡ lengthBy state (now (reflectors .entry)) mask ⌝ }
+{
+    let plan = state.working;
+    let step = state.step;
+    match mask {
+        Mask::Plain(word) => plan_length(plan, step, word as u32),
+        Mask::Mixed(high, low) => plan_mixed_length(
+            plan,
+            step,
+            layout::mixed_number(high, low),
+            (reflectors.len() / REFLECTOR) as u16,
+        ),
+    }
+}
+
+// The profile that a mask asks for, over the front of the buffer; how many words it has (rules 5.3 and 5.19).
+fn write_by(
+    out: &mut [u16],
+    state: State,
+    start: Time,
+    distances: &[u16],
+    echoes: &[u16],
+    reflectors: &[u16],
+    mask: Mask,
+    sent: u16,
+    counter: u16,
+) -> usize
+    requires { ⌜ ProfileAsked state (scanWith (start .0) (now distances) (now echoes) (now reflectors)) mask sent counter (now out) ⌝ }
+    ensures { λ r. ⌜ Wrote (profileBy state (scanWith (start .0) (now (distances .entry)) (now (echoes .entry)) (now (reflectors .entry))) mask sent counter)
+        (now (out .entry)) (now (out .exit)) r ⌝ }
+{
+    match mask {
+        Mask::Plain(word) => write_profile(
+            out,
+            state,
+            start,
+            distances,
+            echoes,
+            word,
+            sent,
+            counter,
+        ),
+        Mask::Mixed(high, low) => write_mixed(
+            out,
+            state,
+            start,
+            distances,
+            echoes,
+            reflectors,
+            high,
+            low,
+            sent,
+            counter,
+        ),
+    }
 }
 
 // The profile of a job, and the state after it, where the buffer has room; refusal 6 with the state as it came where it has none (rule
@@ -84,17 +158,17 @@ fn send(
     start: Time,
     distances: &[u16],
     echoes: &[u16],
-    mask: u16,
+    reflectors: &[u16],
+    mask: Mask,
     sent: u16,
     out: &mut [u16],
 ) -> Reply
-    requires { ⌜ SendAsked state (scan (start .0) (now distances) (now echoes)) ⌝ }
+    requires { ⌜ SendAsked state (scanWith (start .0) (now distances) (now echoes) (now reflectors)) ⌝ }
     ensures { λ r. ⌜ Answered r (now (out .entry)) (now (out .exit))
-        (delivered state (sendOutcome state (scan (start .0) (now (distances .entry)) (now (echoes .entry))) mask sent) (length (now (out .entry)))) ⌝ }
+        (delivered state (sendOutcome state (scanWith (start .0) (now (distances .entry)) (now (echoes .entry)) (now (reflectors .entry))) mask sent)
+        (length (now (out .entry)))) ⌝ }
 {
-    let plan = state.working;
-    let step = state.step;
-    let count = plan_length(plan, step, mask as u32);
+    let count = length_by(state, mask, reflectors);
     if out.len() < count {
         return Reply {
             state: state,
@@ -103,7 +177,17 @@ fn send(
         };
     }
     let counter = risen_by_one(state.counter);
-    let written = write_profile(out, state, start, distances, echoes, mask, sent, counter);
+    let written = write_by(
+        out,
+        state,
+        start,
+        distances,
+        echoes,
+        reflectors,
+        mask,
+        sent,
+        counter,
+    );
     let next = turn(state);
     Reply {
         state: next,
@@ -112,17 +196,20 @@ fn send(
     }
 }
 
-// One revolution from a start time, with the distance and the echo of each shot; its profile into the buffer that is lent (rule 5.1).
+// One revolution from a start time, with the distance and the echo of each shot, and the reflectors, eleven words each; its profile into the
+// buffer that is lent (rule 5.1).
 pub fn revolution(
     state: State,
     start: Time,
     distances: &[u16],
     echoes: &[u16],
+    reflectors: &[u16],
     out: &mut [u16],
 ) -> Reply
-    ensures { λ r. ⌜ RevolutionSays state (scan (start .0) (now (distances .entry)) (now (echoes .entry))) (now (out .entry)) (now (out .exit)) r ⌝ }
+    ensures { λ r. ⌜ RevolutionSays state (scanWith (start .0) (now (distances .entry)) (now (echoes .entry)) (now (reflectors .entry)))
+        (now (out .entry)) (now (out .exit)) r ⌝ }
 {
-    let refusal = revolution_refusal(state, distances, echoes);
+    let refusal = revolution_refusal(state, distances, echoes, reflectors);
     if refusal != 0 {
         return Reply {
             state,
@@ -141,13 +228,25 @@ pub fn revolution(
             left: _,
             mask,
             sent,
-        } => { send(state, start, distances, echoes, mask, sent + 1, out) }
+        } => {
+            send(
+                state,
+                start,
+                distances,
+                echoes,
+                reflectors,
+                mask,
+                sent + 1,
+                out,
+            )
+        }
         Job::Endless { mask, sent } => {
             send(
                 state,
                 start,
                 distances,
                 echoes,
+                reflectors,
                 mask,
                 risen_by_one(sent),
                 out,

@@ -1,5 +1,5 @@
 use borrow.Author.Needs.{needs}
-use Rattle.profile.proofs.Turning.{no-range, no-measure, no-distances, no-echoes, none-refuses}
+use Rattle.profile.proofs.Turning.{no-range, no-measure, no-distances, no-echoes, part-left, too-many, none-refuses}
 use Rattle.profile.proofs.revolutions.revolution_refusal.Statement.{statement}
 use Rattle.profile.proofs.revolutions.revolution_refusal.Tie as tie
 
@@ -15,4 +15,6 @@ revolution-refusal-spec =
     (λ c. search needs)
     (λ c. search no-distances)
     (λ c. search no-echoes)
+    (λ c. search part-left)
+    (λ c. search too-many)
     (λ c. search none-refuses))
