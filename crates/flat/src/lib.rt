@@ -1,9 +1,10 @@
 // The writer of profiles for programs in C or Rust, which have no state with enums to hand over.
 ghost use mathlib.Core.Path.{_≡_};
 ghost use Rattle.state.specs.Fresh.{measuring as Fresh·measuring};
-ghost use Rattle.profile.specs.Profiles.{scan};
+ghost use Rattle.profile.specs.Profiles.{scanWith, scan};
 ghost use Rattle.flat.specs.Plans.{entryOf, planOf};
-ghost use Rattle.flat.specs.Sent.{ProfileSays};
+ghost use Rattle.flat.specs.Sent.{ProfileSays, MixedSays};
+use layout::Mask;
 use plan::Plan;
 use plan::Sector;
 use state::Job;
@@ -42,8 +43,8 @@ pub fn plan_of(plan: &[u16]) -> Plan
     }
 }
 
-// A sensor that measures with that plan, with a job of one profile (rule 5.9).
-fn measuring(plan: &[u16], step: Angle, running: u16, mask: u16) -> State
+// A sensor that measures with that plan, with a job of one profile (rules 5.9 and 5.21).
+fn measuring(plan: &[u16], step: Angle, running: u16, mask: Mask) -> State
     ensures { λ r. ⌜ r ≡ Fresh·measuring (planOf (now (plan .entry))) (step .0) running mask ⌝ }
 {
     let both = plan_of(plan);
@@ -73,7 +74,31 @@ pub extern "C" fn slackjib_profile(
     ensures { λ r. ⌜ ProfileSays (now (plan .entry)) (step .0) running mask (scan (start .0) (now (distances .entry)) (now (echoes .entry)))
         (now (out .entry)) (now (out .exit)) r ⌝ }
 {
-    let state = measuring(plan, step, running, mask);
-    let reply = profile::revolution(state, start, distances, echoes, out);
+    let state = measuring(plan, step, running, Mask::Plain(mask));
+    let none = &distances[0..0];
+    let reply = profile::revolution(state, start, distances, echoes, none, out);
+    reply.count
+}
+
+// The mixed profile of one revolution with these reflectors, eleven words each, into the buffer that is lent; how many words it has, 0
+// where the call is refused (rule 5.21).
+#[no_mangle]
+pub extern "C" fn slackjib_mixed_profile(
+    plan: &[u16],
+    step: Angle,
+    running: u16,
+    high: u16,
+    low: u16,
+    start: Time,
+    distances: &[u16],
+    echoes: &[u16],
+    reflectors: &[u16],
+    out: &mut [u16],
+) -> usize
+    ensures { λ r. ⌜ MixedSays (now (plan .entry)) (step .0) running high low
+        (scanWith (start .0) (now (distances .entry)) (now (echoes .entry)) (now (reflectors .entry))) (now (out .entry)) (now (out .exit)) r ⌝ }
+{
+    let state = measuring(plan, step, running, Mask::Mixed(high, low));
+    let reply = profile::revolution(state, start, distances, echoes, reflectors, out);
     reply.count
 }

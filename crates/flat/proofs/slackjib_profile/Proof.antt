@@ -4,7 +4,16 @@ use Rattle.flat.proofs.slackjib_profile.Statement.{statement}
 use Rattle.flat.proofs.slackjib_profile.Tie as tie
 
 returns : tie.Need-returns
-returns c = sent-so _ _ _ _ _ _ _ (c .before .before .before .before .measuring .ensures) (c .before .before .revolution .ensures)
+returns c = sent-so _ _ _ _ _ _ _ (c .before .before .before .before .before .measuring .ensures) (c .before .before .revolution .ensures)
 
 pub slackjib-profile-spec : {M : Type 1} → statement M
-slackjib-profile-spec = tie.close (tie.spec (λ c κs. search needs) (λ c κs. search needs) (λ c. search needs) returns)
+slackjib-profile-spec =
+    tie.close
+    (tie.spec
+    (λ c κs. search needs)
+    (λ c. search needs)
+    (λ c. search needs)
+    (λ c. search needs)
+    (λ c κs. search needs)
+    (λ c. search needs)
+    returns)
