@@ -8,8 +8,9 @@ use lib.Dec.{eqb}
 use lib.ListN.{length, drop, length-map}
 use borrow.Author.Tests.{eqb-true, eqb-false}
 use Rattle.words.specs.Parse.{Got, short, got}
-use Rattle.words.specs.Format.{AllOk}
-use Rattle.words.proofs.Lawful.{Sound, SoundOf}
+use Rattle.words.specs.Format.{Format, AllOk}
+use Rattle.words.proofs.Lawful.{Lawful, Sound, SoundOf}
+use Rattle.layout.specs.declared.Kind.{Kind}
 use Rattle.layout.specs.Layout.{headLength}
 use Rattle.reader.specs.declared.SectorReading.{SectorReading}
 use Rattle.reader.specs.declared.Reading.{Reading}
@@ -27,7 +28,7 @@ foundIn ws = body (maskIn ws) (countIn ws) .parse headLength (drop headLength ws
 
 -- a body that is read, with some words left, and what the reader gives then
 pub record Parsed (ws rest : List ℕ) : Type 0 where
-  pub head : GoodHead ws
+  pub head : GoodHead Kind.Plain ws
   pub value : Body SectorReading
   pub place : ℕ
   pub parsed : foundIn ws ≡ got value place rest
@@ -40,7 +41,7 @@ Accepted ws = Parsed ws []
 -- the ways a reading goes: its head is refused, its words end early, some are left over, or it is accepted
 pub data Outcome (ws : List ℕ) : Reading → Type 0 where
   refused : (headRefusal ws ≡ 0 → ⊥) → Outcome ws (refusedReading (headRefusal ws) Nowhere)
-  cut : GoodHead ws → foundIn ws ≡ short → Outcome ws (refusedReading 15 (endOf ws))
+  cut : GoodHead Kind.Plain ws → foundIn ws ≡ short → Outcome ws (refusedReading 15 (endOf ws))
   over : {w : ℕ} {rest : List ℕ} → Parsed ws (w ∷ rest) → Outcome ws (refusedReading 16 Nowhere)
   whole : (s : Accepted ws) → Outcome ws (acceptedReading (maskIn ws) (countIn ws) (s .value))
 
@@ -54,13 +55,13 @@ module _ (ws : List ℕ) where
   by-body h e = sym (read-whole ws (headRefusal ws) refl _ h (sym (ap (ended (maskIn ws) (countIn ws) (endOf ws)) e)))
 
   abbrev with-left : headRefusal ws ≡ 0 → {a : Body SectorReading} {b : ℕ} {rest : List ℕ} → foundIn ws ≡ got a b rest → Parsed ws rest
-  with-left h {a} {b} e = record { head = good-head ws h; value = a; place = b; parsed = e; reading = by-body h e }
+  with-left h {a} {b} e = record { head = good-head Kind.Plain ws h; value = a; place = b; parsed = e; reading = by-body h e }
 
   pub outcome : Outcome ws (readOf ws)
   outcome = go (eqb (headRefusal ws) 0) refl
     where
       found : headRefusal ws ≡ 0 → (g : Got (Body SectorReading)) → foundIn ws ≡ g → Outcome ws (ended (maskIn ws) (countIn ws) (endOf ws) g)
-      found h short e = cut (good-head ws h) e
+      found h short e = cut (good-head Kind.Plain ws h) e
       found h (got a b []) e = whole (with-left h e)
       found h (got a b (w ∷ rest)) e = over (with-left h e)
 
@@ -93,12 +94,21 @@ all-length ok zero (f ∷ fs) o = absurd o
 all-length ok (suc n) [] o = absurd o
 all-length ok (suc n) (f ∷ fs) o = ap suc (all-length ok n fs (o .1))
 
+-- what a lawful format reads is sound
+pub sound-of : {A F : Type 0} (c : Format A F) → Lawful c → (W : List ℕ) (b : ℕ) {a : A} {b′ : ℕ} {rest : List ℕ}
+    → c .parse b (drop b W) ≡ got a b′ rest → Sound c W b a b′ rest
+sound-of c lawful W b e = subst (SoundOf c W b) e (lawful .sound W b)
+
+-- a contour that is read has as many sectors as were asked
+pub many-read : (mask count : ℕ) (W : List ℕ) (a : Body SectorReading) → body mask count .ok (body mask count .strip W a)
+    → length (sectorsIn a) ≡ count
+many-read mask count W a o =
+    sym (length-map (sectorsIn a) (sector mask .strip W)) ∙ all-length (sector mask .ok) count _ (sectors-ok mask count _ o)
+
 module _ {ws rest : List ℕ} (s : Parsed ws rest) where
   pub body-sound : Sound (body (maskIn ws) (countIn ws)) ws headLength (s .value) (s .place) rest
-  body-sound = subst (SoundOf (body (maskIn ws) (countIn ws)) ws headLength) (s .parsed) (body-lawful (maskIn ws) (countIn ws) .sound ws headLength)
+  body-sound = sound-of (body (maskIn ws) (countIn ws)) (body-lawful (maskIn ws) (countIn ws)) ws headLength (s .parsed)
 
   -- as many sectors as the third word says
   pub many-sectors : length (sectorsIn (s .value)) ≡ countIn ws
-  many-sectors =
-      sym (length-map (sectorsIn (s .value)) (sector (maskIn ws) .strip ws))
-      ∙ all-length (sector (maskIn ws) .ok) (countIn ws) _ (sectors-ok (maskIn ws) (countIn ws) _ (body-sound .fits))
+  many-sectors = many-read (maskIn ws) (countIn ws) ws (s .value) (body-sound .fits)

@@ -1,13 +1,11 @@
--- What stands behind the first three words: its format has the laws, and reading it by places is reading it.
+-- What stands behind the words that depend on no bit: its format has the laws, and reading it by places is reading it.
 use Prim.Native.Nat.{ℕ, _+_, _≤_, _<_}
-use mathlib.Core.Path.{_≡_, sym, _∙_, ap}
+use mathlib.Core.Path.{_≡_, sym, _∙_}
 use mathlib.Core.List.{List, []}
 use native.Mathlib.Nat.{zero-add}
 use native.Mathlib.Omega.{arith}
-use lib.ListN.{length, drop, length-drop, drop-of-length-le}
-use lib.Seq.{drop-cons}
+use lib.ListN.{length, drop, length-drop}
 use borrow.Author.Tests.{le-leb, lt-leb}
-use Rattle.words.specs.declared.Word.the-variants.{Given}
 use Rattle.words.specs.declared.Took.{Took}
 use Rattle.words.specs.Bits.{bit}
 use Rattle.words.specs.Lists.{Each}
@@ -19,14 +17,10 @@ use Rattle.words.proofs.Extends.{Extends, nothing-extends, optional-extends, jo
 use Rattle.words.proofs.Tracks.{Tracks, outAt, in-out, past-out, nothing-tracks, optional-tracks, join-tracks}
 use Rattle.layout.specs.Bits as bits
 use Rattle.layout.specs.Fields.{SectorFields}
-use Rattle.layout.specs.Layout.{headLength}
 use Rattle.reader.specs.declared.SectorReading.{SectorReading}
 use Rattle.reader.specs.declared.Sectors.{Sectors}
-use Rattle.reader.specs.declared.Reading.{Reading}
-use Rattle.reader.specs.declared.Place.{Place}
-use Rattle.reader.specs.declared.Place.the-variants.{Nowhere}
 use Rattle.reader.specs.Sectors.{sector}
-use Rattle.reader.specs.Readings.{Body, sectorsIn, body, refusedReading, ended}
+use Rattle.reader.specs.Readings.{Body, sectorsIn, body}
 use Rattle.reader.specs.Places.{valueOf, placeOf, fromPlace, SectorsRead}
 use Rattle.reader.proofs.SectorPlaces.{sector-extends}
 
@@ -59,15 +53,15 @@ module _ {A F : Type 0} (c : Format A F) (lawful : Lawful c) (d : A) (ws : List 
         sticks = λ h. rw (lt-leb i (length ws) h) (omega arith);
       }
 
--- the steps of the reader, each from the place behind the one before
-pub record BodyWalk (mask count : ℕ) (ws : List ℕ) : Type 0 where
+-- the steps of the reader, from the place of the first word that depends on a bit, each from the place behind the one before
+pub record BodyWalk (first mask count : ℕ) (ws : List ℕ) : Type 0 where
   pub sent : Took
   pub counter : Took
   pub layer : Took
   pub found : Sectors
   pub high : Took
   pub low : Took
-  pub is-sent : sent ≡ takeAt (bit mask bits.sent) ws headLength
+  pub is-sent : sent ≡ takeAt (bit mask bits.sent) ws first
   pub is-counter : counter ≡ takeAt (bit mask bits.counter) ws (sent .at)
   pub is-layer : layer ≡ takeAt (bit mask bits.layer) ws (counter .at)
   pub is-found : SectorsRead ws mask count (layer .at) found
@@ -81,9 +75,9 @@ sectors-ok mask count b o = o .1 .1 .1 .0
 pub sectors-inside : (mask count n : ℕ) (a : Body SectorReading) → body mask count .inside n a → Each (sector mask .inside n) (sectorsIn a)
 sectors-inside mask count n a i = i .1 .1 .1 .0
 
-module _ (mask count : ℕ) (ws : List ℕ) (long : headLength ≤ length ws) where
+module _ (first mask count : ℕ) (ws : List ℕ) (long : first ≤ length ws) where
   -- the body by places, and the place behind it
-  unfoldable by-places : (a : Body SectorReading) × (j : ℕ) × Tracks (body mask count) ws 0 headLength a j
+  unfoldable by-places : (a : Body SectorReading) × (j : ℕ) × Tracks (body mask count) ws 0 first a j
   by-places = (
     _,
     _,
@@ -96,16 +90,16 @@ module _ (mask count : ℕ) (ws : List ℕ) (long : headLength ≤ length ws) wh
         nothing-tracks _ _ i₅),
   )
 
-  read-by-places : body mask count .parse headLength (drop headLength ws) ≡ outAt ws 0 (by-places .0) (by-places .1)
-  read-by-places = by-places .2 .reads long
+  read-by-places : body mask count .parse first (drop first ws) ≡ outAt ws 0 (by-places .0) (by-places .1)
+  read-by-places = rw zero-add at (by-places .2 .reads long)
 
-  module _ (w : BodyWalk mask count ws) (end : Place) where
+  module _ (w : BodyWalk first mask count ws) where
     abbrev pub walked : Body SectorReading
     walked =
         let list = valueOf [] (fromPlace (times count (sector mask)) ws (w .layer .at)) in
         (w .sent .word, (w .counter .word, (w .layer .word, (list, (w .high .word, (w .low .word, tt))))))
 
-    found : body mask count .parse headLength (drop headLength ws) ≡ outAt ws 0 walked (w .low .at)
+    found : body mask count .parse first (drop first ws) ≡ outAt ws 0 walked (w .low .at)
     unfolding by-places
     found =
         rw (
@@ -118,34 +112,9 @@ module _ (mask count : ℕ) (ws : List ℕ) (long : headLength ≤ length ws) wh
           ← w .is-low,
         )
 
-    -- the ways out, by the place behind the last word
-    pub end-short : length ws < w .low .at → refusedReading 15 end ≡ ended mask count end (body mask count .parse headLength (drop headLength ws))
-    end-short h = sym (ap (ended mask count end) (found ∙ past-out ws 0 walked (w .low .at) h))
+    -- by the place behind the last word
+    pub found-short : length ws < w .low .at → body mask count .parse first (drop first ws) ≡ short
+    found-short h = found ∙ past-out ws 0 walked (w .low .at) h
 
-    pub end-over : {r : Reading} {p : Place} → r ≡ refusedReading 16 p → p ≡ Nowhere → w .low .at < length ws
-        → r ≡ ended mask count end (body mask count .parse headLength (drop headLength ws))
-    end-over is none h =
-        let whole : refusedReading 16 Nowhere ≡ ended mask count end (got walked (0 + w .low .at) (drop (w .low .at) ws)) =
-        rw (drop-cons ws (w .low .at) 0 h) in
-        is ∙ ap (refusedReading 16) none ∙ whole ∙ sym (ap (ended mask count end) (found ∙ in-out ws 0 walked (w .low .at) (omega arith)))
-
-    pub end-exact : w .low .at ≤ length ws → length ws ≤ w .low .at
-        → record {
-          refusal = 0;
-          place = Nowhere;
-          mask = Given mask;
-          sent = w .sent .word;
-          counter = w .counter .word;
-          layer = w .layer .word;
-          count = count;
-          sectors = w .found .list;
-          high = w .high .word;
-          low = w .low .word;
-        } ≡ ended mask count end (body mask count .parse headLength (drop headLength ws))
-    end-exact h k =
-        rw (
-          w .is-found .list,
-          found,
-          in-out ws 0 walked (w .low .at) h,
-          drop-of-length-le ws k,
-        )
+    pub found-whole : w .low .at ≤ length ws → body mask count .parse first (drop first ws) ≡ got walked (w .low .at) (drop (w .low .at) ws)
+    found-whole h = found ∙ in-out ws 0 walked (w .low .at) h ∙ rw zero-add

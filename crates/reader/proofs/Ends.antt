@@ -15,17 +15,13 @@ use Rattle.words.specs.Places.{takeAt}
 use Rattle.words.proofs.Lawful.{KeptOf}
 use Rattle.words.proofs.Takes.{took-within}
 use Rattle.layout.specs.Bits as bits
-use Rattle.layout.specs.Layout.{headLength}
 use Rattle.reader.specs.declared.SectorReading.{SectorReading}
-use Rattle.reader.specs.declared.Reading.{Reading}
 use Rattle.reader.specs.declared.Part.{Part}
 use Rattle.reader.specs.declared.Part.the-variants.{Head, Sector, Senstat}
-use Rattle.reader.specs.declared.Place.the-variants.{At}
 use Rattle.reader.specs.Sectors.{sector}
-use Rattle.reader.specs.Endings.{headWords, oneMore, wholes, wholeSectors, partMissing}
-use Rattle.reader.specs.Readings.{body, refusedReading, ended}
-use Rattle.reader.specs.Places.{placeOf, SectorsRead, partBy}
-use Rattle.reader.proofs.Bodies.{BodyWalk, sectors-extends, end-short}
+use Rattle.reader.specs.Endings.{oneMore, wholes}
+use Rattle.reader.specs.Places.{placeOf, SectorsRead, partBy, headFrom, wholeFrom, partFrom, ContourRead}
+use Rattle.reader.proofs.Bodies.{BodyWalk, sectors-extends, walked, found-short, found-whole}
 
 -- all are whole, or one of them is not
 abbrev Counted : {A : Type 0} → ℕ → ℕ → Got (List A) → Type 0
@@ -71,11 +67,11 @@ lands true ws n at r e h = go (ltb at (length ws)) refl
     go true q = rw (e, q) (omega (arith, ltb-true at (length ws) q))
     go false q = rw (e, q) (omega (arith, ltb-false at (length ws) q))
 
-module _ (mask count : ℕ) (ws : List ℕ) (long : headLength ≤ length ws) (w : BodyWalk mask count ws) where
+module _ (first mask count : ℕ) (ws : List ℕ) (long : first ≤ length ws) (w : BodyWalk first mask count ws) where
   -- behind the head, or one past the end
-  behind-head : Reaches ws (headWords mask) (w .layer .at)
+  behind-head : Reaches ws (headFrom first mask) (w .layer .at)
   behind-head =
-      let sent = lands (bit mask bits.sent) ws headLength headLength _ (w .is-sent) (omega arith) in
+      let sent = lands (bit mask bits.sent) ws first first _ (w .is-sent) (omega arith) in
       let counter = lands (bit mask bits.counter) ws _ _ _ (w .is-counter) sent in
       let layer = lands (bit mask bits.layer) ws _ _ _ (w .is-layer) counter in
       subst (λ (n : ℕ). Reaches ws n (w .layer .at)) (omega arith) layer
@@ -92,50 +88,72 @@ module _ (mask count : ℕ) (ws : List ℕ) (long : headLength ≤ length ws) (w
       go true e = omega (arith, w .is-found .cut h (ltb-true (length ws) (w .found .at) e))
       go false e = omega (arith, w .is-found .all h (ltb-false (length ws) (w .found .at) e))
 
-  module _ (inside : headWords mask ≤ length ws) where
-    head-place : w .layer .at ≡ headWords mask
+  module _ (inside : headFrom first mask ≤ length ws) where
+    head-place : w .layer .at ≡ headFrom first mask
     head-place = omega (arith, behind-head)
 
-    found-at : SectorsRead ws mask count (headWords mask) (w .found)
+    found-at : SectorsRead ws mask count (headFrom first mask) (w .found)
     found-at = subst (λ (at : ℕ). SectorsRead ws mask count at (w .found)) head-place (w .is-found)
 
-    behind-sectors : w .found .at ≡ placeOf ws (timesParse count (sector mask .parse) (headWords mask) (drop (headWords mask) ws))
-    behind-sectors = rw (le-leb (headWords mask) (length ws) inside) at (found-at .place)
+    behind-sectors : w .found .at ≡ placeOf ws (timesParse count (sector mask .parse) (headFrom first mask) (drop (headFrom first mask) ws))
+    behind-sectors = rw (le-leb (headFrom first mask) (length ws) inside) at (found-at .place)
 
     -- by what reading the sectors finds
-    in-sectors : (g : Got (List SectorReading)) → Counted count (wholeSectors mask count ws) g
-        → KeptOf (headWords mask) (drop (headWords mask) ws) g → w .found .at ≡ placeOf ws g
-        → partBy (length ws) (headWords mask) (w .found .at) (w .found .begun) ≡ partMissing mask count ws
-    unfolding partMissing
+    in-sectors : (g : Got (List SectorReading)) → Counted count (wholeFrom first mask count ws) g
+        → KeptOf (headFrom first mask) (drop (headFrom first mask) ws) g → w .found .at ≡ placeOf ws g
+        → partBy (length ws) (headFrom first mask) (w .found .at) (w .found .begun) ≡ partFrom first mask count ws
+    unfolding partFrom
     in-sectors short less kept e =
         let cut : length ws < w .found .at = omega arith in
         let begun = found-at .cut inside cut in
-        let last : w .found .begun - 1 ≡ wholeSectors mask count ws = omega arith in
-        sym (ends-in-sector (length ws) (headWords mask) (w .found .at) (w .found .begun) inside cut)
-        ∙ rw (le-ltb (length ws) (headWords mask) inside, lt-ltb (wholeSectors mask count ws) count less, last)
+        let last : w .found .begun - 1 ≡ wholeFrom first mask count ws = omega arith in
+        sym (ends-in-sector (length ws) (headFrom first mask) (w .found .at) (w .found .begun) inside cut)
+        ∙ rw (le-ltb (length ws) (headFrom first mask) inside, lt-ltb (wholeFrom first mask count ws) count less, last)
     in-sectors (got xs b ws′) all kept e =
-        let behind : w .found .at ≤ length ws = omega (arith, length-drop (headWords mask) ws) in
-        sym (ends-in-senstat (length ws) (headWords mask) (w .found .at) (w .found .begun) inside behind)
-        ∙ rw (le-ltb (length ws) (headWords mask) inside, le-ltb (wholeSectors mask count ws) count (omega arith))
+        let behind : w .found .at ≤ length ws = omega (arith, length-drop (headFrom first mask) ws) in
+        sym (ends-in-senstat (length ws) (headFrom first mask) (w .found .at) (w .found .begun) inside behind)
+        ∙ rw (le-ltb (length ws) (headFrom first mask) inside, le-ltb (wholeFrom first mask count ws) count (omega arith))
 
   -- the part by places is the first that is not whole
-  pub end-part : partBy (length ws) (w .layer .at) (w .found .at) (w .found .begun) ≡ partMissing mask count ws
-  unfolding partMissing
-  end-part = go (ltb (length ws) (headWords mask)) refl
+  pub end-part : partBy (length ws) (w .layer .at) (w .found .at) (w .found .begun) ≡ partFrom first mask count ws
+  unfolding partFrom
+  end-part = go (ltb (length ws) (headFrom first mask)) refl
     where
-      go : (t : Bool) → ltb (length ws) (headWords mask) ≡ t
-          → partBy (length ws) (w .layer .at) (w .found .at) (w .found .begun) ≡ partMissing mask count ws
+      go : (t : Bool) → ltb (length ws) (headFrom first mask) ≡ t
+          → partBy (length ws) (w .layer .at) (w .found .at) (w .found .begun) ≡ partFrom first mask count ws
       go true e =
-          let h = ltb-true (length ws) (headWords mask) e in
+          let h = ltb-true (length ws) (headFrom first mask) e in
           rw (e, lt-ltb (length ws) (w .layer .at) (omega (arith, behind-head)))
       go false e =
-          let h = ltb-false (length ws) (headWords mask) e in
-          let read = timesParse count (sector mask .parse) (headWords mask) (drop (headWords mask) ws) in
+          let h = ltb-false (length ws) (headFrom first mask) e in
+          let read = timesParse count (sector mask .parse) (headFrom first mask) (drop (headFrom first mask) ws) in
           rw (head-place h)
           (in-sectors h read (counted (sector mask .parse) count _ _) (sectors-extends mask count .lawful .kept _ _) (behind-sectors h))
 
-  -- a reading that is refused at an index and a part that are the place
-  pub ends-early : {r : Reading} {index : ℕ} {p : Part} → r ≡ refusedReading 15 (At index p) → index ≡ length ws
-      → p ≡ partBy (length ws) (w .layer .at) (w .found .at) (w .found .begun) → length ws < w .low .at
-      → r ≡ ended mask count (At (length ws) (partMissing mask count ws)) (body mask count .parse headLength (drop headLength ws))
-  ends-early is e q past = is ∙ (λ j. refusedReading 15 (At (e j) ((q ∙ end-part) j))) ∙ end-short mask count ws long w _ past
+  -- what the walk finds is the contour, or the part at which it ends
+  pub contour-read : {p : Part} → p ≡ partBy (length ws) (w .layer .at) (w .found .at) (w .found .begun)
+      → ContourRead ws first mask count (record {
+        at = w .low .at;
+        part = p;
+        sent = w .sent .word;
+        counter = w .counter .word;
+        layer = w .layer .word;
+        list = w .found .list;
+        high = w .high .word;
+        low = w .low .word;
+      })
+  contour-read e =
+      record {
+        whole =
+            λ h. record {
+              value = walked first mask count ws long w;
+              found = found-whole first mask count ws long w h;
+              sent = refl;
+              counter = refl;
+              layer = refl;
+              list = w .is-found .list;
+              high = refl;
+              low = refl;
+            };
+        cut = λ h. record { found = found-short first mask count ws long w h; part = e ∙ end-part };
+      }

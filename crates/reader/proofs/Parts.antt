@@ -11,6 +11,7 @@ use lib.Seq.{drop-at}
 use borrow.Author.Tests.{lt-ltb, le-ltb, ltb-true, ltb-false}
 use Rattle.words.specs.Bits.{bit}
 use Rattle.words.specs.Words.{laidAll}
+use Rattle.layout.specs.declared.Kind.{Kind}
 use Rattle.layout.specs.Bits as bits
 use Rattle.layout.specs.Fields.{Fields}
 use Rattle.layout.specs.Layout.{layoutSector, status, layout, Acceptable, headLength, oneLayer}
@@ -129,7 +130,7 @@ module _ (ws : List ℕ) where
 
   -- the place that a reading has
   placed : {r : Reading} → Outcome ws r → r .refusal ≡ 15 → r .place ≡ endOf ws
-  placed (refused h) e = absurd (head-other ws e)
+  placed (refused h) e = absurd (head-other Kind.Plain ws e)
   placed (cut h p) e = refl
   placed (over s) e = absurd (omega arith)
   placed (whole s) e = absurd (omega arith)

@@ -133,7 +133,7 @@ module _ (f : Fields) where
     before-end k s =
         omega (arith, in-sector k s .1, one-longer layoutSector (f .sectors) k, at-most-all layoutSector (f .sectors) (suc k))
 
-    one-part : (p q : Part) → Belongs f i p → Belongs f i q → p ≡ q
+    pub one-part : (p q : Part) → Belongs f i p → Belongs f i q → p ≡ q
     one-part Head Head s t = refl
     one-part Head (Sector l) s t = absurd (omega (arith, s .below, in-sector l t .0))
     one-part Head Senstat s t = absurd (omega (arith, s .below, in-senstat t))
@@ -143,6 +143,12 @@ module _ (f : Fields) where
     one-part Senstat Head s t = absurd (omega (arith, t .below, in-senstat s))
     one-part Senstat (Sector l) s t = absurd (omega (arith, before-end l t, in-senstat s))
     one-part Senstat Senstat s t = refl
+
+    -- and none is past the end
+    pub no-further : (p : Part) → Belongs f i p → i < length (layout f)
+    no-further Head s = omega (arith, s .below, whole-length)
+    no-further (Sector k) s = omega (arith, before-end k s, whole-length)
+    no-further Senstat s = rw whole-length (rw before-senstat at (s .below))
 
     -- and each belongs to one
     some-part : i < length (layout f) → (p : Part) × Belongs f i p

@@ -1,67 +1,58 @@
--- The points of a sector of an accepted reading: as many words as their number and the mask say, and none where the mask leaves either out.
-use Prim.Native.Nat.{ℕ, zero, suc, _*_, _<_}
-use mathlib.Core.Path.{_≡_, refl, sym, _∙_}
-use mathlib.Core.Logic.{inl, inr}
+-- The points of a sector that was read: as many words as their number and the mask say, and none where the mask leaves either out.
+use Prim.Native.Nat.{ℕ, _*_, _<_}
+use mathlib.Core.Path.{_≡_, refl, _∙_}
+use mathlib.Core.Logic.{_⊎_, inl, inr}
 use mathlib.Core.Bool.{Bool, true, false}
-use mathlib.Core.List.{List, [], _∷_, map}
+use mathlib.Core.List.{List, [], _∷_}
 use native.Mathlib.Nat.{zero-mul, mul-zero}
 use native.Mathlib.Omega.{arith}
-use lib.ListN.{getD, drop, length-drop}
-use lib.Seq.{length-take-le}
+use lib.ListN.{length, getD, drop}
 use borrow.Author.Tests.{lt-ltb}
 use Rattle.words.specs.declared.Word.{Word}
 use Rattle.words.specs.declared.Word.the-variants.{Absent, Given}
 use Rattle.words.specs.Bits.{bit}
-use Rattle.words.specs.Lists.{Each, none, this}
 use Rattle.words.specs.Words.{numberOf, Shaped}
-use Rattle.words.specs.Format.{AllOk}
-use Rattle.words.proofs.Each.{each-at}
+use Rattle.words.specs.Parse.{got}
 use Rattle.layout.specs.Bits as bits
+use Rattle.layout.specs.Layout.{headLength}
 use Rattle.layout.specs.Masks.{pointWidth}
 use Rattle.reader.specs.declared.SectorReading.{SectorReading}
 use Rattle.reader.specs.Sectors.{sector, blankSector}
-use Rattle.reader.specs.Readings.{maskIn, countIn, readOf}
-use Rattle.reader.specs.Stretches.{stretchOf}
+use Rattle.reader.specs.Readings.{maskIn, countIn, Body, sectorsIn, body, padded, readOf}
+use Rattle.reader.specs.Stretches.{stretchIn, stretchOf}
 use Rattle.reader.specs.Demands.{NoPoints}
-use Rattle.reader.proofs.Bodies.{sectors-ok}
-use Rattle.reader.proofs.Accepted.{body-sound}
-use Rattle.reader.proofs.PointPlaces.{whole, found, read-there, at-place, in-words}
-
-all-mapped : {A F : Type 0} (ok : F → Type 0) (f : A → F) (n : ℕ) (xs : List A) → AllOk ok n (map f xs) → Each (λ x. ok (f x)) xs
-all-mapped ok f n [] o = none
-all-mapped ok f zero (x ∷ xs) o = absurd o
-all-mapped ok f (suc n) (x ∷ xs) o = this (o .0) (all-mapped ok f n xs (o .1))
+use Rattle.reader.proofs.FoundSectors.{found-ok}
+use Rattle.reader.proofs.PointPlaces.{whole}
 
 left-out : (on : Bool) (w : Word) → Shaped on w → on ≡ false → numberOf w ≡ 0
 left-out on Absent h e = refl
 left-out true (Given w) h e = absurd (let z : _≡_ {A = ℕ} 0 1 = cc in omega arith)
 left-out false (Given w) h e = absurd h
 
-module _ (ws : List ℕ) (place : ℕ) (here : place < readOf ws .count) where
+no-length : (l : List ℕ) → length l ≡ 0 → l ≡ []
+no-length [] e = refl
+no-length (x ∷ xs) e = absurd (omega arith)
+
+-- of a body that is read from some place on
+module _ (ws : List ℕ) (mask count first : ℕ) {value : Body SectorReading} {end : ℕ} {rest : List ℕ}
+    (parsed : body mask count .parse first (drop first ws) ≡ got value end rest) (place : ℕ) (here : place < count) where
   abbrev at : SectorReading
-  at = getD (readOf ws .sectors) place blankSector
+  at = getD (padded (sectorsIn value)) place blankSector
 
-  ok : sector (maskIn ws) .ok (sector (maskIn ws) .strip ws at)
-  ok =
-      let all : AllOk (sector (maskIn ws) .ok) (countIn ws) (map (sector (maskIn ws) .strip ws) (found ws place here)) =
-      sectors-ok (maskIn ws) (countIn ws) _ (body-sound (whole ws place here) .fits) in
-      rw (at-place ws place here) (each-at blankSector place (all-mapped _ _ (countIn ws) (found ws place here) all) (read-there ws place here))
+  ok : sector mask .ok (sector mask .strip ws at)
+  ok = found-ok ws mask count first parsed place here
 
-  point-words : at .len ≡ numberOf (at .points) * pointWidth (maskIn ws)
-  point-words = sym (length-take-le (at .len) (drop (at .start) ws) (rw length-drop (omega (arith, in-words ws place here)))) ∙ ok .1 .1 .1 .1 .1 .0
+  point-words : length (stretchIn ws at) ≡ numberOf (at .points) * pointWidth mask
+  point-words = ok .1 .1 .1 .1 .1 .0
 
-  -- bit 5 is clear
-  unnumbered : bit (maskIn ws) bits.points ≡ false → at .len ≡ 0
-  unnumbered e = point-words ∙ rw (left-out (bit (maskIn ws) bits.points) (at .points) (ok .1 .1 .0) e, zero-mul)
-
-  -- bits 8 to 10 are clear
-  wordless : pointWidth (maskIn ws) ≡ 0 → at .len ≡ 0
-  wordless e = point-words ∙ rw (e, mul-zero)
-
-  no-words : at .len ≡ 0 → stretchOf ws place ≡ []
-  unfolding stretchOf
-  no-words e = rw (lt-ltb place (readOf ws .count) here, e)
+  -- bit 5 is clear, or bits 8 to 10 are
+  pub pointless : (bit mask bits.points ≡ false) ⊎ (pointWidth mask ≡ 0) → stretchIn ws at ≡ []
+  pointless (inl e) = no-length (stretchIn ws at) (point-words ∙ rw (left-out (bit mask bits.points) (at .points) (ok .1 .1 .0) e, zero-mul))
+  pointless (inr e) = no-length (stretchIn ws at) (point-words ∙ rw (e, mul-zero))
 
 pub no-points : NoPoints
-no-points ws place here (inl e) = no-words ws place here (unnumbered ws place here e)
-no-points ws place here (inr e) = no-words ws place here (wordless ws place here e)
+unfolding stretchOf
+no-points ws place here why =
+    let s = whole ws place here in
+    rw (lt-ltb place (readOf ws .count) here, s .reading)
+    (pointless ws (maskIn ws) (countIn ws) headLength (s .parsed) place (rw (s .reading) at here) why)

@@ -11,12 +11,12 @@ use borrow.Author.Tests.{ltb-true, ltb-false}
 use Rattle.words.specs.Words.{laidAll}
 use Rattle.words.specs.Parse.{Got, short, got}
 use Rattle.words.specs.Format.{Format, AllOk}
-use Rattle.words.proofs.Lawful.{SoundOf, Complete, Lawful}
+use Rattle.words.proofs.Lawful.{Sound, SoundOf, Complete, Lawful}
 use Rattle.reader.specs.Endings.{oneMore, wholes}
 use Rattle.reader.specs.Places.{valueOf}
 
 -- what is behind a front that is shorter
-front-of : {A : Type 0} (xs ys us vs : List A) → xs ++ us ≡ ys ++ vs → length ys ≤ length xs → xs ≡ ys ++ drop (length ys) xs
+pub front-of : {A : Type 0} (xs ys us vs : List A) → xs ++ us ≡ ys ++ vs → length ys ≤ length xs → xs ≡ ys ++ drop (length ys) xs
 front-of xs [] us vs e h = refl
 front-of [] (y ∷ ys) us vs e h = absurd (omega arith)
 front-of (x ∷ xs) (y ∷ ys) us vs e h =
@@ -28,7 +28,7 @@ restOf short = []
 restOf (got a b ws) = ws
 
 -- nothing found is not something found
-not-both : {A : Type 0} {a : A} {b : ℕ} {ws : List ℕ} → _≡_ {A = Got A} short (got a b ws) → ⊥
+pub not-both : {A : Type 0} {a : A} {b : ℕ} {ws : List ℕ} → _≡_ {A = Got A} short (got a b ws) → ⊥
 not-both e = absurd (let z : _≡_ {A = ℕ} 0 1 = ap (λ g. oneMore g (λ _ _. 0)) e in omega arith)
 
 module _ {A F : Type 0} (c : Format A F) (lawful : Lawful c) where
@@ -41,8 +41,18 @@ module _ {A F : Type 0} (c : Format A F) (lawful : Lawful c) where
       let same : got (first .value) (first .place) us ≡ got (second .value) (second .place) vs = sym (first .reads) ∙ second .reads in
       (sym (first .same) ∙ ap (λ g. c .strip W (valueOf (first .value) g)) same ∙ second .same, ap restOf same)
 
+  -- what is found whole is what was laid out, and what is left goes on as what stands behind it
+  pub found-same : (W : List ℕ) (b : ℕ) (f : F) (us vs : List ℕ) → c .ok f → drop b W ++ us ≡ c .put f ++ vs
+      → {a : A} {b′ : ℕ} {ws′ : List ℕ} → Sound c W b a b′ ws′
+      → (c .strip W a ≡ f) × (ws′ ++ us ≡ vs) × (length (drop b W) ≡ length (c .put f) + length ws′)
+  found-same W b f us vs ok is {a} {b′} {ws′} s =
+      let word-by-word = sym (append-assoc (c .put (c .strip W a)) ws′ us) ∙ ap (λ ws. ws ++ us) (sym (s .words)) ∙ is in
+      let both = one-way (c .strip W a) f (ws′ ++ us) vs (s .fits) ok word-by-word in
+      let long = ap length (s .words) ∙ length-append (c .put (c .strip W a)) ws′ ∙ ap (λ g. length (c .put g) + length ws′) (both .0) in
+      (both .0, both .1, long)
+
   -- where nothing whole is found, the words end within it
-  ends-within : (W : List ℕ) (b : ℕ) (f : F) (us vs : List ℕ) → c .ok f → c .parse b (drop b W) ≡ short → drop b W ++ us ≡ c .put f ++ vs
+  pub ends-within : (W : List ℕ) (b : ℕ) (f : F) (us vs : List ℕ) → c .ok f → c .parse b (drop b W) ≡ short → drop b W ++ us ≡ c .put f ++ vs
       → length (drop b W) < length (c .put f)
   ends-within W b f us vs ok e is = go (ltb (length (drop b W)) (length (c .put f))) refl
     where
@@ -78,13 +88,10 @@ module _ {A F : Type 0} (c : Format A F) (lawful : Lawful c) where
       let within = ends-within W b f us _ ok e is in
       inr (omega arith, omega arith, rw (append-nil (c .put f)) (omega arith))
   one-stops f fs W b us vs ok is others (got a b′ ws′) e s =
-      let word-by-word = sym (append-assoc (c .put (c .strip W a)) ws′ us) ∙ ap (λ ws. ws ++ us) (sym (s .words)) ∙ is in
-      let both = one-way (c .strip W a) f (ws′ ++ us) _ (s .fits) ok word-by-word in
+      let same = found-same W b f us _ ok is s in
       let there = subst (λ ws. Stops fs (wholes (length fs) (c .parse) b′ ws) (length ws)) (s .rest)
-      (others b′ (ap (λ ws. ws ++ us) (s .rest) ∙ both .1)) in
-      let long : length (drop b W) ≡ length (c .put f) + length ws′ =
-      ap length (s .words) ∙ length-append (c .put (c .strip W a)) ws′ ∙ ap (λ g. length (c .put g) + length ws′) (both .0) in
-      rw long (one-further f fs _ (length ws′) there)
+      (others b′ (ap (λ ws. ws ++ us) (s .rest) ∙ same .1)) in
+      rw (same .2) (one-further f fs _ (length ws′) there)
 
   pub stops : (fs : List F) (W : List ℕ) (b : ℕ) (us vs : List ℕ) → AllOk (c .ok) (length fs) fs → drop b W ++ us ≡ laidAll (c .put) fs ++ vs
       → Stops fs (wholes (length fs) (c .parse) b (drop b W)) (length (drop b W))

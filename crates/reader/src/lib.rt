@@ -2,11 +2,20 @@
 use words::Word;
 
 mod body;
+mod contour;
 mod head;
+mod mixed;
+mod reflectors;
 mod sector;
 mod stretches;
 
 pub use body::read;
+pub use mixed::read_mixed;
+pub use reflectors::all_reflectors;
+pub use reflectors::reflector;
+pub use reflectors::reflector_refusal;
+pub use reflectors::stretch_mixed;
+pub use reflectors::stretch_mixed_refusal;
 pub use stretches::stretch;
 pub use stretches::stretch_refusal;
 
@@ -46,6 +55,52 @@ pub struct Reading {
     pub layer: Word,
     pub count: usize,
     pub sectors: [SectorReading; 8],
+    pub high: Word,
+    pub low: Word,
+}
+
+// The part of a mixed profile to which a word belongs: one that a plain profile has too, the count, or a reflector by its place, from 0
+// on (rule 5.25).
+pub enum MixedPart {
+    Contour(Part),
+    Count,
+    Reflector(usize),
+}
+
+// Where the words end early, with refusal 15 alone: the index of the first missing word, and its part (rule 5.25).
+pub enum MixedPlace {
+    Nowhere,
+    At(usize, MixedPart),
+}
+
+// A mixed profile's words: the number for no and its place, the mask's high and low word, the head, how many sectors there are, the
+// sectors, SENSTAT; how many reflectors there are, where their words begin, and how many each has (rule 5.23).
+pub struct MixedReading {
+    pub refusal: u16,
+    pub place: MixedPlace,
+    pub upper: Word,
+    pub lower: Word,
+    pub sent: Word,
+    pub counter: Word,
+    pub layer: Word,
+    pub count: usize,
+    pub sectors: [SectorReading; 8],
+    pub high: Word,
+    pub low: Word,
+    pub reflectors: Word,
+    pub start: usize,
+    pub width: usize,
+}
+
+// What reading a contour finds: the place behind it, one past the end where the words end early, and the part at which they end then; and
+// its words.
+pub(crate) struct ContourFound {
+    pub at: usize,
+    pub part: Part,
+    pub sent: Word,
+    pub counter: Word,
+    pub layer: Word,
+    pub list: [SectorReading; 8],
     pub high: Word,
     pub low: Word,
 }

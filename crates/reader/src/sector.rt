@@ -14,8 +14,8 @@ use words::product;
 use words::skip;
 use words::take_word;
 
-// A word's number, 0 where it is absent (rule 5.10).
-fn number_of(word: Word) -> u16
+// A word's number, 0 where it is absent (rules 5.10 and 5.22).
+pub(crate) fn number_of(word: Word) -> u16
     ensures { λ r. ⌜ r ≡ numberOf word ⌝ }
 {
     match word {

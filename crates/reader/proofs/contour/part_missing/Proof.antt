@@ -1,8 +1,8 @@
 -- `part_missing`: each way out by its law.
 use native.Mathlib.Omega.{arith}
 use Rattle.reader.proofs.Ends.{ends-in-head, ends-in-sector, ends-in-senstat}
-use Rattle.reader.proofs.body.part_missing.Statement.{statement}
-use Rattle.reader.proofs.body.part_missing.Tie as tie
+use Rattle.reader.proofs.contour.part_missing.Statement.{statement}
+use Rattle.reader.proofs.contour.part_missing.Tie as tie
 
 pub part-missing-spec : {M : Type 1} → statement M
 part-missing-spec =
