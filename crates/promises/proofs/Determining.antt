@@ -3,10 +3,13 @@ use mathlib.Core.Path.{_≡_, refl, sym, _∙_}
 use mathlib.Core.List.{List}
 use Prim.Native.Nat.{ℕ}
 use lib.ListN.{length}
+use base.Fml.{GName}
+use denote.Ref.{RefT}
 use Rattle.words.specs.Buffers.{over, Wrote}
 use Rattle.state.specs.declared.Reply.{Reply}
 use Rattle.state.specs.Replies.{Result, Answered}
 use Rattle.sensor.proofs.Lawful.{lawful}
+use Rattle.reader.specs.MixedStretches.{Lends}
 use Rattle.promises.specs.Determined.{OneAnswer, Determined, OneDetermines}
 
 -- the law: two answers that equal the one are equal
@@ -28,6 +31,11 @@ wrote ws before = by-value (length ws, over ws before) (record { words = refl; c
 answered : (before : List ℕ) (x : Result) → OneAnswer (λ (a : Reply × List ℕ). Answered (a .0) before (a .1) x)
 answered before x = by-value (x .reply, over (x .written) before) (record { reply = refl; buffer = refl }) (λ a h i. (h .reply i, h .buffer i))
 
+-- a part of the words handed in
+lent : (words : RefT (List ℕ)) (part : List ℕ) (start : ℕ) (name : GName)
+    → OneAnswer (λ (a : List ℕ × (ℕ × ℕ)). Lends words part start (record { ptr = a .1; name = name; now = a .0 }))
+lent words part start name = by-value (_, _) (record { lends = refl; stands = refl }) (λ a h i. (h .lends i, h .stands i))
+
 pub determined : Determined
 determined =
     record {
@@ -37,9 +45,17 @@ determined =
       read = λ ws. is-value _;
       stretch = λ words place name. by-value (_, _) (record { lends = refl; stands = refl }) (λ a h i. (h .lends i, h .stands i));
       stretch-refusal = λ ws place. is-value _;
+      read-mixed = λ ws. is-value _;
+      stretch-mixed = λ words place name. lent words _ _ name;
+      stretch-mixed-refusal = λ ws place. is-value _;
+      reflector = λ words place name. lent words _ _ name;
+      reflector-refusal = λ ws place. is-value _;
+      all-reflectors = λ words name. lent words _ _ name;
       fresh = is-value _;
       profile =
           λ plan step running mask g before. by-value (_, _) (record { counted = refl; buffer = refl }) (λ a h i. (h .counted i, h .buffer i));
+      mixed-profile =
+          λ plan step running high low g before. by-value (_, _) (record { counted = refl; buffer = refl }) (λ a h i. (h .counted i, h .buffer i));
       take-record = λ bytes before. by-value (_, _) (record { is = refl; words = refl }) (λ a h i. (h .is i, h .words i));
       write-line = λ nr refusal ws before. wrote _ before;
       answer =

@@ -25,11 +25,15 @@ use Rattle.state.specs.Fresh.{freshPlan, freshState, measuring}
 use Rattle.sensor.specs.Table.{serviceOf}
 use Rattle.sensor.specs.Requests.{serviceRefusal, requestRefusal, outcome, requestOf}
 use Rattle.profile.specs.Points.{pointWords}
-use Rattle.profile.specs.Profiles.{Scan, pointsOf}
+use Rattle.profile.specs.Profiles.{Scan, scan, pointsOf}
 use Rattle.profile.specs.Revolutions.{revolved, revolutionRefusal, revolutionOf}
 use Rattle.profile.specs.Figures.{still}
 use Rattle.reader.specs.declared.Reading.{Reading}
 use Rattle.reader.specs.Readings.{headRefusal, bodyOf, readOf, ReadSays}
+use Rattle.layout.specs.declared.Mask.{Mask}
+use Rattle.layout.specs.MixedMasks.{mixedOk, reflectorWidth}
+use Rattle.reader.specs.declared.MixedReading.{MixedReading}
+use Rattle.reader.specs.Mixed.{mixedHeadRefusal, mixedBodyOf, readMixedOf, ReadMixedSays}
 use Rattle.promises.specs.StandIns.{Call, Answering, OnlyTheFirstSector, ShutOut, StandInsShutOut}
 
 -- what a caller finds of a result: its reply, and the buffer afterwards
@@ -87,13 +91,13 @@ requests =
 
 -- a revolution of 90 shots whose profile carries the time of its first one, from start times 7 and 0
 abbrev lateStart : Scan
-lateStart = record { start = 7; distances = replicate 90 0; echoes = replicate 90 0 }
+lateStart = scan 7 (replicate 90 0) (replicate 90 0)
 
 revolutions : ShutOut revolutionOf
 unfolding over revolutionOf delivered revolutionRefusal revolved inRange configOk isStep entryInRange
     planInRange litShots measureError maskOk pointsOf pointWords inTurn
 revolutions =
-    shut-out revolutionOf (measuring (filled (sector 3 5696 ∷ [])) 64 10 0x0040) lateStart (still 90) (replicate 5 0) 3
+    shut-out revolutionOf (measuring (filled (sector 3 5696 ∷ [])) 64 10 (Mask.Plain 0x0040)) lateStart (still 90) (replicate 5 0) 3
     (record {
       served = refl;
       other-input = λ e. omega (arith, e);
@@ -111,7 +115,7 @@ only-the-first-sector : (f : Call Scan) → Answering revolutionOf f → OnlyThe
 unfolding over revolutionOf delivered revolutionRefusal revolved inRange configOk isStep entryInRange
     planInRange litShots measureError maskOk pointsOf pointWords inTurn
 only-the-first-sector f h same =
-    let s = measuring freshPlan 64 10 0x0020 in
+    let s = measuring freshPlan 64 10 (Mask.Plain 0x0020) in
     let d : List ℕ = replicate 5 0 in
     let e = agree revolutionOf f h (wordAt 4) (withPlans s (twoSectors 3) (s .stored)) (withPlans s (twoSectors 1) (s .stored)) (still 90) (still 90) d
     (ap (λ (l : List ℕ). getD l 4 0) (same s (twoSectors 3) (twoSectors 1) (still 90) d refl refl)) in
@@ -131,6 +135,21 @@ one-reading-for-all : (f : List ℕ → Reading) → ((ws : List ℕ) → ReadSa
 unfolding maskOk headRefusal bodyOf readOf
 one-reading-for-all f h same =
     omega (arith, ap (λ (r : Reading). r .refusal) (sym (h []) ∙ same [] justTheNumber ∙ h justTheNumber))
+
+-- a mixed profile with the number sent alone
+abbrev mixedNumberAlone : List ℕ
+mixedNumberAlone = 0x9301 ∷ 0 ∷ 1 ∷ 0x0101 ∷ 5 ∷ []
+
+mixed-reader-refuses-all :
+    (f : List ℕ → MixedReading) → ((ws : List ℕ) → ReadMixedSays ws (f ws)) → ((ws : List ℕ) → f ws .refusal ≡ 0 → ⊥) → ⊥
+unfolding maskOk mixedOk reflectorWidth mixedHeadRefusal mixedBodyOf readMixedOf
+mixed-reader-refuses-all f h all = all mixedNumberAlone (ap (λ (r : MixedReading). r .refusal) (h mixedNumberAlone))
+
+one-mixed-reading-for-all :
+    (f : List ℕ → MixedReading) → ((ws : List ℕ) → ReadMixedSays ws (f ws)) → ((vs ws : List ℕ) → f vs ≡ f ws) → ⊥
+unfolding maskOk mixedOk reflectorWidth mixedHeadRefusal mixedBodyOf readMixedOf
+one-mixed-reading-for-all f h same =
+    omega (arith, ap (λ (r : MixedReading). r .refusal) (sym (h []) ∙ same [] mixedNumberAlone ∙ h mixedNumberAlone))
 
 -- two neighbours with one function, whose normal plan has a sector less
 abbrev joinable : Plan
@@ -163,6 +182,8 @@ stand-ins-shut-out =
       only-the-first-sector = only-the-first-sector;
       reader-refuses-all = reader-refuses-all;
       one-reading-for-all = one-reading-for-all;
+      mixed-reader-refuses-all = mixed-reader-refuses-all;
+      one-mixed-reading-for-all = one-mixed-reading-for-all;
       plan-handed-back = plan-handed-back;
       one-fixed-plan = one-fixed-plan;
     }

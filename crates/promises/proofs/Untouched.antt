@@ -1,19 +1,22 @@
 -- A revolution neither looks at the settings of the NAV300 nor changes them.
-use mathlib.Core.Path.{_≡_, refl, sym, subst}
+use mathlib.Core.Path.{_≡_, refl, sym, ap, subst}
 use mathlib.Core.Bool.{Bool, true, false, not}
+use mathlib.Core.List.{List, []}
 use Prim.Native.Nat.{ℕ}
 use lib.Dec.{T, ltb, eqb}
 use lib.ListN.{length}
 use Rattle.words.specs.Choice.{if_then_else_}
 use Rattle.words.proofs.Tests.{is-true}
+use Rattle.layout.specs.declared.Mask.{Mask}
 use Rattle.state.specs.declared.State.{State}
 use Rattle.state.specs.declared.Settings.{Settings}
 use Rattle.state.specs.Fields.{withSettings}
+use Rattle.state.specs.Jobs.{maskOf, isJob}
 use Rattle.state.specs.Ranges.{isMeasure, inRange}
 use Rattle.state.specs.Replies.{refused, delivered}
 use Rattle.state.proofs.Delivery.{done}
 use Rattle.profile.specs.Profiles.{Scan}
-use Rattle.profile.specs.Revolutions.{revolved, listsFit, revolutionRefusal, revolutionOf}
+use Rattle.profile.specs.Revolutions.{risen, sentAfter, profileBy, profileOf, turned, revolved, listsFit, reflectorsFit, revolutionRefusal, revolutionOf}
 use Rattle.profile.proofs.Revolved.{revolution-by}
 use Rattle.promises.specs.Unsent.{Alike, SettingsUnsent}
 
@@ -28,17 +31,35 @@ module _ (s : State) (n : Settings) (g : Scan) (room : ℕ) where
   refused-alike : (number : ℕ) → Alike n (refused s number) (refused t number)
   refused-alike number = record { written = refl; count = refl; refusal = refl; state = refl }
 
-  delivered-alike : Alike n (delivered s (revolved s g) room) (delivered t (revolved t g) room)
-  unfolding delivered revolved
-  delivered-alike = go (ltb room (length (revolved s g .words)))
+  -- the profile of each kind is the same
+  same-by : (mask : Mask) (sent counter : ℕ) → profileBy s g mask sent counter ≡ profileBy t g mask sent counter
+  same-by (Mask.Plain word) sent counter = refl
+  same-by (Mask.Mixed high low) sent counter = refl
+
+  same-words : profileOf s g (s .job) ≡ profileOf t g (s .job)
+  same-words = ap (λ (l : List ℕ). if isJob (s .job) then l else []) (same-by (maskOf (s .job)) (sentAfter (s .job)) (risen (s .counter)))
+
+  -- of any words, the same of both states
+  words-alike : (ws : List ℕ)
+      → Alike n (delivered s (record { after = turned s; words = ws }) room) (delivered t (record { after = turned t; words = ws }) room)
+  unfolding delivered
+  words-alike ws = go (ltb room (length ws))
     where
-      go : (b : Bool) → Alike n (if b then refused s 6 else done (revolved s g)) (if b then refused t 6 else done (revolved t g))
+      go : (b : Bool)
+          → Alike n (if b then refused s 6 else done (record { after = turned s; words = ws }))
+          (if b then refused t 6 else done (record { after = turned t; words = ws }))
       go true = refused-alike 6
       go false = record { written = refl; count = refl; refusal = refl; state = refl }
 
+  delivered-alike : Alike n (delivered s (revolved s g) room) (delivered t (revolved t g) room)
+  unfolding revolved
+  delivered-alike =
+      subst (λ (l : List ℕ). Alike n (delivered s (revolved s g) room) (delivered t (record { after = turned t; words = l }) room)) same-words
+      (words-alike (profileOf s g (s .job)))
+
   -- what refuses a state in its ranges
   abbrev number : ℕ
-  number = if not (isMeasure (s .mode)) then 7 else if not (listsFit s g) then 8 else 0
+  number = if not (isMeasure (s .mode)) then 7 else if not (listsFit s g) then 8 else if not (reflectorsFit g) then 27 else 0
 
   with-settings : T (inRange s) → T (inRange t) → Alike n (revolutionOf s g room) (revolutionOf t g room)
   unfolding revolutionOf revolutionRefusal

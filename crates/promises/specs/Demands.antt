@@ -2,13 +2,18 @@
 -- proofs/Demanded.antt.
 use Rattle.normal.specs.Demands.{Demand3 as NormalPlans, AnswersValid, RefusalsExactly as PlanNumbers, RefusalsGiveZeros}
 use Rattle.layout.specs.Lengths.{LayoutLength}
+use Rattle.layout.specs.Mixed.{MixedLayoutLength}
 use Rattle.plan.specs.Demands.{Tiling, Counting, Revolution}
 use Rattle.sensor.specs.Demands.{RefusalsExactly as RequestNumbers, RefusalsChangeNothing as RequestUnchanged, RoomForAll}
 use Rattle.sensor.specs.Demands.{TableHolds, OnlyThese, SettingsKept}
 use Rattle.profile.specs.Demands.{RefusalsExactly as RevolutionNumbers, RefusalsChangeNothing as RevolutionUnchanged}
 use Rattle.profile.specs.Demands.{NearestTimes, SentLength, NeverLonger, PointsAreShots, AllPoints}
+use Rattle.profile.specs.Demands.{MixedNeverLonger, MixedPointsAreShots, MixedAllPoints}
 use Rattle.reader.specs.Demands.{AcceptsExactly, PutTogether, ReadsBack, OneReading, NoPoints, StandsAtPlace}
 use Rattle.reader.specs.Demands.{RefusalsExactly as ReaderNumbers, EndsPlaced, PartsTile, StretchNumbers, RefusalsGiveNothing}
+use Rattle.reader.specs.MixedDemands.{MixedAcceptsExactly, MixedPutTogether, MixedReadsBack, MixedOneReading, OneKind, MixedNoPoints}
+use Rattle.reader.specs.MixedDemands.{MixedStandsAtPlace, ReflectorsInTurn, MixedRefusalsExactly, MixedEndsPlaced, MixedPartsTile}
+use Rattle.reader.specs.MixedDemands.{MixedStretchNumbers, ReflectorNumbers, MixedRefusalsGiveNothing}
 use Rattle.promises.specs.Determined.{Determined}
 use Rattle.promises.specs.Exchange.{SentIsRead}
 use Rattle.promises.specs.Life.{Life}
@@ -28,6 +33,12 @@ pub record Demand1 : Type 1 where
   pub ends-placed : EndsPlaced
   pub parts-tile : PartsTile
   pub stretch-numbers : StretchNumbers
+  -- the same of mixed profiles, and the numbers of their reflectors
+  pub mixed-reader-numbers : MixedRefusalsExactly
+  pub mixed-ends-placed : MixedEndsPlaced
+  pub mixed-parts-tile : MixedPartsTile
+  pub mixed-stretch-numbers : MixedStretchNumbers
+  pub reflector-numbers : ReflectorNumbers
   -- room for the longest answer is room for every one
   pub room-for-all : RoomForAll
   -- what a refusal leaves
@@ -35,12 +46,13 @@ pub record Demand1 : Type 1 where
   pub revolution-unchanged : RevolutionUnchanged
   pub plan-of-zeros : RefusalsGiveZeros
   pub reader-gives-nothing : RefusalsGiveNothing
-  -- a sensor that was switched on never comes to refusal 1
+  pub mixed-reader-gives-nothing : MixedRefusalsGiveNothing
+  -- a sensor that was switched on never comes to refusal 1, with jobs of both kinds
   pub life : Life
 
 -- 2. What is answered, what the state becomes and how a profile is laid out are as the rules say. The reader accepts the profiles that
--- carry what it needs, and no other list of words; and from what it reads the same words can be put together (rules 4.3, 4.4, 5.5, 5.10
--- and 5.15)
+-- carry what it needs, and no other list of words; and from what it reads the same words can be put together (rules 4.3, 4.4, 5.5, 5.10,
+-- 5.15, 5.19 and 5.22)
 pub record Demand2 : Type 0 where
   -- the table and its answers, and that a service changes no part of the state but its own
   pub tabled : TableHolds
@@ -59,6 +71,10 @@ pub record Demand2 : Type 0 where
   pub all-points : AllPoints
   pub sent-length : SentLength
   pub never-longer : NeverLonger
+  -- and so of a mixed profile
+  pub mixed-points : MixedPointsAreShots
+  pub mixed-all-points : MixedAllPoints
+  pub mixed-never-longer : MixedNeverLonger
   -- the reader
   pub accepts-exactly : AcceptsExactly
   pub put-together : PutTogether
@@ -67,7 +83,17 @@ pub record Demand2 : Type 0 where
   pub no-points : NoPoints
   pub stands-at-place : StandsAtPlace
   pub laid-length : LayoutLength
-  -- both together
+  -- the reader of mixed profiles; no list of words is taken by both readers
+  pub mixed-accepts-exactly : MixedAcceptsExactly
+  pub mixed-put-together : MixedPutTogether
+  pub mixed-reads-back : MixedReadsBack
+  pub mixed-one-reading : MixedOneReading
+  pub one-kind : OneKind
+  pub mixed-no-points : MixedNoPoints
+  pub mixed-stands-at-place : MixedStandsAtPlace
+  pub reflectors-in-turn : ReflectorsInTurn
+  pub mixed-laid-length : MixedLayoutLength
+  -- writer and reader together, of both kinds
   pub sent-is-read : SentIsRead
 
 -- 3. Plans that are valid for a step are made the same normal plan where they run alike, and only there. It runs as they do, is its own

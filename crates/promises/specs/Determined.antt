@@ -20,10 +20,13 @@ use Rattle.sensor.specs.Table.{rowOf}
 use Rattle.sensor.specs.Requests.{RequestSays}
 use Rattle.profile.specs.Profiles.{Scan}
 use Rattle.profile.specs.Revolutions.{RevolutionSays}
-use Rattle.flat.specs.Sent.{ProfileSays}
+use Rattle.flat.specs.Sent.{ProfileSays, MixedSays}
 use Rattle.reader.specs.declared.Reading.{Reading}
 use Rattle.reader.specs.Readings.{ReadSays}
 use Rattle.reader.specs.Stretches.{StretchRefusalSays, StretchSays}
+use Rattle.reader.specs.declared.MixedReading.{MixedReading}
+use Rattle.reader.specs.Mixed.{ReadMixedSays}
+use Rattle.reader.specs.MixedStretches.{MixedStretchRefusalSays, MixedStretchSays, ReflectorRefusalSays, ReflectorSays, ReflectorsSays}
 use Rattle.dialogue.specs.declared.Record.{Record}
 use Rattle.dialogue.specs.declared.Said.{Said}
 use Rattle.dialogue.specs.Records.{TakeRecordSays}
@@ -51,9 +54,21 @@ pub record Determined : Type 1 where
   pub stretch : (words : RefT (List ℕ)) (place : ℕ) (name : GName)
       → OneAnswer (λ (a : List ℕ × (ℕ × ℕ)). StretchSays words place (record { ptr = a .1; name = name; now = a .0 }))
   pub stretch-refusal : (ws : List ℕ) (place : ℕ) → OneAnswer (StretchRefusalSays ws place)
+  -- the reader of mixed profiles, with its stretches and its reflectors
+  pub read-mixed : (ws : List ℕ) → OneAnswer (ReadMixedSays ws)
+  pub stretch-mixed : (words : RefT (List ℕ)) (place : ℕ) (name : GName)
+      → OneAnswer (λ (a : List ℕ × (ℕ × ℕ)). MixedStretchSays words place (record { ptr = a .1; name = name; now = a .0 }))
+  pub stretch-mixed-refusal : (ws : List ℕ) (place : ℕ) → OneAnswer (MixedStretchRefusalSays ws place)
+  pub reflector : (words : RefT (List ℕ)) (place : ℕ) (name : GName)
+      → OneAnswer (λ (a : List ℕ × (ℕ × ℕ)). ReflectorSays words place (record { ptr = a .1; name = name; now = a .0 }))
+  pub reflector-refusal : (ws : List ℕ) (place : ℕ) → OneAnswer (ReflectorRefusalSays ws place)
+  pub all-reflectors : (words : RefT (List ℕ)) (name : GName)
+      → OneAnswer (λ (a : List ℕ × (ℕ × ℕ)). ReflectorsSays words (record { ptr = a .1; name = name; now = a .0 }))
   pub fresh : OneAnswer FreshSays
   pub profile : (plan : List ℕ) (step running mask : ℕ) (g : Scan) (before : List ℕ)
       → OneAnswer (λ (a : ℕ × List ℕ). ProfileSays plan step running mask g before (a .1) (a .0))
+  pub mixed-profile : (plan : List ℕ) (step running high low : ℕ) (g : Scan) (before : List ℕ)
+      → OneAnswer (λ (a : ℕ × List ℕ). MixedSays plan step running high low g before (a .1) (a .0))
   pub take-record : (bytes before : List ℕ) → OneAnswer (λ (a : Record × List ℕ). TakeRecordSays (a .0) bytes before (a .1))
   pub write-line : (nr refusal : ℕ) (ws before : List ℕ) → OneAnswer (λ (a : ℕ × List ℕ). WriteLineSays nr refusal ws before (a .1) (a .0))
   pub answer : (s : State) (number : ℕ) (bytes before : List ℕ)

@@ -11,7 +11,7 @@ use Rattle.sensor.specs.Figures.{requestRows}
 use Rattle.profile.specs.Figures.{profileRows, listingRows}
 use Rattle.reader.specs.Figures.{readerRows}
 
--- for any plan that is valid for step 1 and any speed (rules 7.1 to 7.9, 7.13 and 7.14)
+-- for any plan that is valid for step 1 and any speed (rules 7.1 to 7.9 and 7.13 to 7.18)
 abbrev pub rows : Plan → ℕ → List Row
 rows p speed = planRows p speed ++ normalRows p ++ stateRows ++ requestRows ++ profileRows ++ readerRows ++ listingRows
 

@@ -18,6 +18,8 @@ use Rattle.profile.specs.Profiles.{Scan}
 use Rattle.profile.specs.Revolutions.{revolutionOf}
 use Rattle.reader.specs.declared.Reading.{Reading}
 use Rattle.reader.specs.Readings.{ReadSays}
+use Rattle.reader.specs.declared.MixedReading.{MixedReading}
+use Rattle.reader.specs.Mixed.{ReadMixedSays}
 
 -- a call that is lent a buffer: from a state, what it is handed and the buffer, to the reply and the buffer afterwards
 abbrev pub Call : Type 0 → Type 0
@@ -73,5 +75,9 @@ pub record StandInsShutOut : Type 0 where
   pub only-the-first-sector : (f : Call Scan) → Answering revolutionOf f → OnlyTheFirstSector f → ⊥
   pub reader-refuses-all : (f : List ℕ → Reading) → ((ws : List ℕ) → ReadSays ws (f ws)) → ((ws : List ℕ) → f ws .refusal ≡ 0 → ⊥) → ⊥
   pub one-reading-for-all : (f : List ℕ → Reading) → ((ws : List ℕ) → ReadSays ws (f ws)) → ((vs ws : List ℕ) → f vs ≡ f ws) → ⊥
+  pub mixed-reader-refuses-all :
+      (f : List ℕ → MixedReading) → ((ws : List ℕ) → ReadMixedSays ws (f ws)) → ((ws : List ℕ) → f ws .refusal ≡ 0 → ⊥) → ⊥
+  pub one-mixed-reading-for-all :
+      (f : List ℕ → MixedReading) → ((ws : List ℕ) → ReadMixedSays ws (f ws)) → ((vs ws : List ℕ) → f vs ≡ f ws) → ⊥
   pub plan-handed-back : Normalises (λ step p. p) → ⊥
   pub one-fixed-plan : (q : Plan) → Normalises (λ step p. q) → ⊥

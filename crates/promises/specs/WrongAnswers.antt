@@ -14,6 +14,7 @@ use Rattle.plan.specs.Sectors.{sector, entryAt, withEntry, filled}
 use Rattle.plan.specs.Validity.{multiples}
 use Rattle.normal.specs.declared.Normalised.{Normalised}
 use Rattle.normal.specs.NormalForm.{NormalPlanSays}
+use Rattle.layout.specs.declared.Mask.{Mask}
 use Rattle.layout.specs.Masks.{pointWidth}
 use Rattle.state.specs.declared.State.{State}
 use Rattle.state.specs.declared.Mode.the-variants.{Rotate, Measure}
@@ -82,7 +83,7 @@ pub record WrongAnswers : Type 0 where
   pub fresh-stop : FreshSays (withPlans freshState (filled (sector 3 5759 ∷ [])) (freshState .stored)) → ⊥
   -- `revolution`: another step than the one that the points were taken at, 8, in a profile of that word alone
   pub step-from-elsewhere :
-      (r : Reply) (after : List ℕ) → RevolutionSays (measuring freshPlan 8 10 0x0010) (still 720) (0 ∷ 0 ∷ 0 ∷ 0 ∷ []) after r
+      (r : Reply) (after : List ℕ) → RevolutionSays (measuring freshPlan 8 10 (Mask.Plain 0x0010)) (still 720) (0 ∷ 0 ∷ 0 ∷ 0 ∷ []) after r
       → getD after 3 0 ≡ 4
       → ⊥
   -- `stretch`: at the front of the words, and not where the sector's points are
