@@ -1,8 +1,11 @@
 // The format of the trials: words as bytes, cases out of the input, lists and buffers, states and readings as words, and
 // the lines. The line's form is the program's (rule 7.11).
 
+use crate::layout::{Contour, EarlyEnd, Part};
+use crate::mask::{self, Mask};
+use crate::mixed_reader::MixedReading;
 use crate::plan::{Plan, Sector};
-use crate::reader::{EarlyEnd, Part, Reading};
+use crate::reader::Reading;
 use crate::state::{Job, Mode, ReflectorConfig, Settings, State};
 
 /// A DWORD and a word go high part first; an odd byte at the end is no word.
@@ -89,7 +92,7 @@ impl<'a> CaseWords<'a> {
         ReflectorConfig { threshold, radius }
     }
 
-    /// The last words of a state: "the direction of rotation, the working threshold, the working radius, the stored
+    /// Of a state's words "the direction of rotation, the working threshold, the working radius, the stored
     /// threshold and the stored radius".
     fn settings(&mut self) -> Settings {
         let rotate_direction = self.word();
@@ -98,7 +101,7 @@ impl<'a> CaseWords<'a> {
         Settings { rotate_direction, working, stored }
     }
 
-    /// "A state is 48 words"
+    /// "A state is 50 words"
     pub fn state(&mut self) -> State {
         let id = self.word();
         let configured_speed = self.word();
@@ -117,15 +120,19 @@ impl<'a> CaseWords<'a> {
         let counter = self.word();
         let kind_of_job = self.word();
         let left = self.word();
-        let mask = self.word();
+        let low = self.word();
         let sent = self.word();
+        let settings = self.settings();
+        // "of the job's mask its kind (0 plain, any other mixed) and its high word"; "A plain mask has no high word"
+        let kind_of_mask = self.word();
+        let high = self.word();
+        let mask = if kind_of_mask == 0 { Mask::Plain(low) } else { Mask::mixed(high, low) };
         // "job (0 absent, 1 counted, any other endless)"
         let job = match kind_of_job {
             0 => Job::Absent,
             1 => Job::Counted { left, mask, sent },
             _ => Job::Endless { mask, sent },
         };
-        let settings = self.settings();
         State {
             id,
             configured_speed,
@@ -166,7 +173,8 @@ pub fn plan_words(plan: &Plan) -> Vec<u16> {
     plan.iter().flat_map(|sector| [sector.function, sector.stop]).collect()
 }
 
-/// A state as words: "mode is 1, 2 or 3, and job is 0, 1 or 2; left, mask and sent that a job does not have are 0".
+/// A state as words: "mode is 1, 2 or 3, job is 0, 1 or 2, and the kind of its mask 0 or 1; left, mask, sent and high word
+/// that a job does not have are 0, and so is the kind without a job".
 pub fn state_words(state: &State) -> Vec<u16> {
     let mut words = vec![state.id, state.configured_speed, state.step];
     words.extend(plan_words(&state.working_plan));
@@ -177,13 +185,19 @@ pub fn state_words(state: &State) -> Vec<u16> {
         Mode::Measure => 3,
     });
     words.extend([state.running_speed, u16::from(state.port), state.counter]);
+    let (kind_of_mask, [high, low]) = match state.job.mask() {
+        None => (0, [0, 0]),
+        Some(Mask::Plain(mask)) => (0, [0, mask]),
+        Some(Mask::Mixed(mask)) => (1, mask::mixed_words(mask)),
+    };
     words.extend(match state.job {
         Job::Absent => [0, 0, 0, 0],
-        Job::Counted { left, mask, sent } => [1, left, mask, sent],
-        Job::Endless { mask, sent } => [2, 0, mask, sent],
+        Job::Counted { left, sent, .. } => [1, left, low, sent],
+        Job::Endless { sent, .. } => [2, 0, low, sent],
     });
     let Settings { rotate_direction, working, stored } = state.settings;
     words.extend([rotate_direction, working.threshold, working.radius, stored.threshold, stored.radius]);
+    words.extend([kind_of_mask, high]);
     words
 }
 
@@ -195,40 +209,60 @@ fn push_field(words: &mut Vec<u16>, field: Option<u16>) {
     }
 }
 
-/// The place that comes with 15 (rule 5.16): a word of 0 where there is none, else the part's number, which sector it is
-/// (0 where it is none), and the index.
+/// The place that comes with 15 (rules 5.16 and 5.25): a word of 0 where there is none, else the part's number, which sector
+/// or reflector it is (0 where it is neither), and the index.
 fn push_early_end(words: &mut Vec<u16>, early_end: Option<EarlyEnd>) {
     let Some(EarlyEnd { part, index }) = early_end else {
         words.push(0);
         return;
     };
     let place = match part {
-        Part::Sector(place) => place,
-        Part::Head | Part::Senstat => 0,
+        Part::Sector(place) | Part::Reflector(place) => place,
+        Part::Head | Part::Senstat | Part::Count => 0,
     };
     words.extend([part.number(), place as u16, index as u16]);
+}
+
+/// What readings of both kinds have: of "each of the eight places" the same nine, whether there is a sector or not.
+fn push_contour(words: &mut Vec<u16>, contour: &Contour) {
+    for field in [contour.sent, contour.counter, contour.layer] {
+        push_field(words, field);
+    }
+    words.push(contour.sector_count as u16);
+    for sector in &contour.sectors {
+        for field in [sector.number, sector.step, sector.points, sector.first_time, sector.first_direction] {
+            push_field(words, field);
+        }
+        words.push(sector.points_place as u16);
+        words.push(sector.points_length as u16);
+        push_field(words, sector.last_time);
+        push_field(words, sector.last_direction);
+    }
+    for field in contour.senstat {
+        push_field(words, field);
+    }
 }
 
 /// The words of a reading in a line. Every field of the profile can be absent; the number of sectors, places and numbers
 /// of words are plain, and 0 in a refused reading.
 pub fn reading_words(reading: &Reading) -> Vec<u16> {
     let mut words = Vec::new();
-    for field in [reading.mask, reading.sent, reading.counter, reading.layer] {
+    push_field(&mut words, reading.mask);
+    push_contour(&mut words, &reading.contour);
+    push_early_end(&mut words, reading.early_end);
+    words
+}
+
+/// The words of a mixed profile's reading in a line, in the same way.
+pub fn mixed_reading_words(reading: &MixedReading) -> Vec<u16> {
+    let mut words = Vec::new();
+    for field in reading.mask {
         push_field(&mut words, field);
     }
-    words.push(reading.sector_count as u16);
-    for sector in &reading.sectors {
-        for field in [sector.number, sector.step, sector.points, sector.first_time, sector.first_direction] {
-            push_field(&mut words, field);
-        }
-        words.push(sector.points_place as u16);
-        words.push(sector.points_length as u16);
-        push_field(&mut words, sector.last_time);
-        push_field(&mut words, sector.last_direction);
-    }
-    for field in reading.senstat {
-        push_field(&mut words, field);
-    }
+    push_contour(&mut words, &reading.contour);
+    push_field(&mut words, reading.reflector_count);
+    words.push(reading.reflectors_place as u16);
+    words.push(reading.words_of_reflector as u16);
     push_early_end(&mut words, reading.early_end);
     words
 }

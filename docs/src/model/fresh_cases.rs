@@ -2,7 +2,11 @@
 
 use crate::case_parts::{self, TurnGiven};
 use crate::format::{self, CaseWords, ListGiven};
+use crate::mask::Mask;
+use crate::mixed_reader;
+use crate::plan::Plan;
 use crate::random::Random;
+use crate::random_mixed_profiles;
 use crate::random_plans;
 use crate::random_profiles;
 use crate::random_requests;
@@ -37,7 +41,7 @@ fn buffer_for(random: &mut Random, answer: usize) -> ListGiven {
 
 fn request_case(random: &mut Random) -> Vec<u16> {
     // those with the most rules more often
-    let service = &services::TABLE[random.weighted(&[2, 2, 2, 4, 2, 4, 2, 4, 2, 3, 2, 3, 6, 3, 5, 1, 2, 3])];
+    let service = &services::TABLE[random.weighted(&[2, 2, 2, 4, 2, 4, 2, 4, 3, 3, 2, 3, 6, 3, 5, 1, 2, 6, 4, 3])];
     let mode = if service.code == services::TRANS_MEASURE && random.percent(60) {
         Mode::Rotate
     } else if random.percent(85) {
@@ -74,8 +78,20 @@ fn list_length(random: &mut Random, shots: usize) -> usize {
     }
 }
 
+const NO_REFLECTORS: ListGiven = ListGiven { length: 0, first: 0, rise: 0 };
+
+/// A list of reflectors; one of nine is too long or not in elevens.
+fn reflectors_given(random: &mut Random) -> ListGiven {
+    let length = if random.percent(89) {
+        11 * random_mixed_profiles::reflector_count(random)
+    } else {
+        random_mixed_profiles::bad_list_length(random)
+    };
+    any_list(random, length)
+}
+
 /// Lists and a buffer for a revolution of this state.
-fn turn_given(random: &mut Random, state: &State) -> TurnGiven {
+fn turn_given(random: &mut Random, state: &State, reflectors: ListGiven) -> TurnGiven {
     let shots = random_states::shots_asked_of_lists(state);
     let any_time = random.word();
     let near_wrap = random.between(65436, 65535);
@@ -85,12 +101,14 @@ fn turn_given(random: &mut Random, state: &State) -> TurnGiven {
         start_time: random.pick(&[0, any_time, near_wrap]),
         distances: any_list(random, distances_length),
         echoes: any_list(random, echoes_length),
+        reflectors,
         buffer: ListGiven { length: 8191, first: 0, rise: 0 },
     };
     let tried = Turn {
         start_time: turn.start_time,
         distances: turn.distances.words(),
         echoes: turn.echoes.words(),
+        reflectors: turn.reflectors.words(),
         buffer: turn.buffer.words(),
     };
     let (outcome, _) = trial::turn_outcome(state, &tried);
@@ -109,7 +127,8 @@ fn revolution_case(random: &mut Random) -> Vec<u16> {
     };
     let state_words = random_states::state_words_maybe_damaged(random, &state);
     let given = CaseWords::new(&state_words).state();
-    let turn = turn_given(random, &given);
+    let reflectors = reflectors_given(random);
+    let turn = turn_given(random, &given, reflectors);
     case_parts::revolution_case(&state_words, &turn)
 }
 
@@ -134,40 +153,87 @@ fn normal_plan_case(random: &mut Random) -> Vec<u16> {
     case_parts::normal_plan_case(asked, &plan)
 }
 
-fn stretch_case(random: &mut Random) -> Vec<u16> {
-    let words = random_profiles::words_for_reader(random);
-    let sectors = if words.len() > 2 { (words[2] & 0x00FF).max(1) } else { 1 };
+/// The place of one of so many sectors, of the first that there is not, or of any other.
+fn place_of_sector(random: &mut Random, sectors: u16) -> u16 {
     let place = random.below(usize::from(sectors)) as u16;
     let any = random.word();
-    let place = match random.weighted(&[80, 8, 4, 4, 4]) {
+    match random.weighted(&[80, 8, 4, 4, 4]) {
         0 => place,
         1 => sectors,
         2 => random.between(0, 8),
         3 => any,
         _ => random.pick(&[7, 8, 255, 256, 65535]),
-    };
-    case_parts::stretch_case(place, &words)
+    }
 }
 
-fn plain_profile_case(random: &mut Random) -> Vec<u16> {
+fn stretch_case(random: &mut Random) -> Vec<u16> {
+    let words = random_profiles::words_for_reader(random);
+    let sectors = if words.len() > 2 { (words[2] & 0x00FF).max(1) } else { 1 };
+    case_parts::stretch_case(place_of_sector(random, sectors), &words)
+}
+
+fn stretch_mixed_case(random: &mut Random) -> Vec<u16> {
+    let words = random_mixed_profiles::words_for_reader(random);
+    let sectors = if words.len() > 3 { (words[3] & 0x00FF).max(1) } else { 1 };
+    case_parts::stretch_mixed_case(place_of_sector(random, sectors), &words)
+}
+
+/// Places below the number of reflectors, just at it and past it, and huge ones.
+fn reflector_case(random: &mut Random) -> Vec<u16> {
+    let words = random_mixed_profiles::words_for_reader(random);
+    let count = mixed_reader::read(&words).1.reflector_count.unwrap_or(0);
+    let below = random.below(usize::from(count.max(1))) as u16;
+    let any = random.word();
+    let place = match random.weighted(&[60, 12, 10, 6, 4, 4, 4]) {
+        0 => below,
+        1 => count,
+        2 => count.saturating_sub(1),
+        3 => count + 1,
+        4 => random.between(0, 66),
+        5 => any,
+        _ => random.pick(&[63, 64, 65, 255, 256, 32768, 65535]),
+    };
+    case_parts::reflector_case(place, &words)
+}
+
+/// Step, speed and plan for a profile by plain numbers, one of them damaged now and then.
+fn setting_maybe_damaged(random: &mut Random) -> (u16, u16, Plan) {
     let (mut step, mut speed, mut plan) =
         if random.percent(1) { random_plans::largest_setting(random) } else { random_plans::measure_setting(random) };
-    let mut mask = random_states::job_mask(random);
-    match random.weighted(&[80, 5, 5, 5, 5]) {
+    match random.weighted(&[85, 5, 5, 5]) {
         0 => {}
         1 => step = random_requests::edge_word(random),
         2 => speed = random.pick(&[0, 4, 5, 20, 21, 65535, speed + 1]),
-        3 => random_plans::damage_plan(random, &mut plan, step),
-        _ => mask = random.pick(&[0, 0x4000, 0x8000, mask | 0x4000, mask | 0x8000, 0xFFFF]),
+        _ => random_plans::damage_plan(random, &mut plan, step),
     }
-    let state = trial::plain_profile_state(plan, step, speed, mask);
-    let turn = turn_given(random, &state);
+    (step, speed, plan)
+}
+
+fn plain_profile_case(random: &mut Random) -> Vec<u16> {
+    let (step, speed, plan) = setting_maybe_damaged(random);
+    let mut mask = random_states::job_mask(random);
+    if random.percent(5) {
+        mask = random.pick(&[0, 0x4000, 0x8000, mask | 0x4000, mask | 0x8000, 0xFFFF]);
+    }
+    let state = trial::profile_state(plan, step, speed, Mask::Plain(mask));
+    let turn = turn_given(random, &state, NO_REFLECTORS);
     case_parts::plain_profile_case(&plan, step, speed, mask, &turn)
+}
+
+fn mixed_profile_case(random: &mut Random) -> Vec<u16> {
+    let (step, speed, plan) = setting_maybe_damaged(random);
+    let good = random_states::mixed_mask(random);
+    let bad = random_states::bad_mixed_mask(random);
+    let mask = if random.percent(92) { good } else { bad };
+    let state = trial::profile_state(plan, step, speed, Mask::Mixed(mask));
+    let reflectors = reflectors_given(random);
+    let turn = turn_given(random, &state, reflectors);
+    case_parts::mixed_profile_case(&plan, step, speed, mask, &turn)
 }
 
 /// One fresh case.
 pub fn case(random: &mut Random) -> Vec<u16> {
-    let mut case = match random.weighted(&[400, 190, 130, 120, 110, 4, 43, 3]) {
+    let mut case = match random.weighted(&[400, 210, 120, 120, 110, 4, 43, 3, 110, 50, 60, 25, 45]) {
         0 => request_case(random),
         1 => revolution_case(random),
         2 => normal_plan_case(random),
@@ -175,10 +241,15 @@ pub fn case(random: &mut Random) -> Vec<u16> {
         4 => stretch_case(random),
         5 => vec![trial::FRESH_STATE],
         6 => plain_profile_case(random),
+        8 => case_parts::read_mixed_case(&random_mixed_profiles::words_for_reader(random)),
+        9 => stretch_mixed_case(random),
+        10 => reflector_case(random),
+        11 => case_parts::all_reflectors_case(&random_mixed_profiles::words_for_reader(random)),
+        12 => mixed_profile_case(random),
         // another kind, or no word at all
         _ => {
             let any = random.word();
-            let kind = random.pick(&[0, 8, 255, 256, 257, 65535, any]);
+            let kind = random.pick(&[0, 13, 255, 256, 257, 65535, any]);
             if random.percent(20) {
                 vec![]
             } else {

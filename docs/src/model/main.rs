@@ -6,19 +6,26 @@ mod census;
 mod cuts;
 mod format;
 mod fresh_cases;
+mod layout;
+mod mask;
 mod measure_checks;
+mod mixed_reader;
 mod plan;
 mod program;
 mod random;
+mod random_mixed_profiles;
 mod random_plans;
 mod random_profiles;
 mod random_requests;
 mod random_states;
 mod reader;
+mod reflectors;
 mod revolution;
 mod services;
 mod state;
 mod stored_cases;
+mod stored_mixed;
+mod stored_mixed_readings;
 mod stored_plans;
 mod stored_readings;
 mod stored_requests;
@@ -30,6 +37,8 @@ mod stored_times;
 mod talk;
 #[cfg(test)]
 mod tests;
+#[cfg(test)]
+mod tests_mixed;
 #[cfg(test)]
 mod tests_settings;
 mod trial;
@@ -44,8 +53,8 @@ const USAGE: &str = "usage: model COMMAND
   pick NUMBER        cases on standard input: the one of this number alone
   census             cases on standard input: how many of each kind, refusal, service and step
   cuts               cases on standard input: cases of reading, each profile among them cut to every length below its
-                     own. A profile is what kinds 4 and 5 are given and what kinds 2 and 7 send, where the reader
-                     takes it; those that are alike are taken once
+                     own. A profile is what kinds 4, 5 and 8 to 11 are given and what kinds 2, 7 and 12 send,
+                     where a reader takes it; those that are alike are taken once
   cuts --count       cases on standard input: how many such profiles and cuts they make
   talk SEED COUNT    an input for the program
   program            that input on standard input: what the program prints";

@@ -1,18 +1,19 @@
 // Random words for the reader: profiles as the sensor writes them, profiles laid out with any field values, and damage to
 // both.
 
+use crate::mask::{has_bit, Mask};
 use crate::random::Random;
 use crate::random_plans;
 use crate::random_requests;
 use crate::random_states;
 use crate::reader;
-use crate::revolution::{self, has_bit};
+use crate::revolution::{self, Measured};
 use crate::state::{Job, Mode, State};
 
 /// The profile that a state with a job writes in its next revolution; none without a job.
-pub fn profile_of_state(state: &State, start_time: u16, distances: &[u16], echoes: &[u16]) -> Vec<u16> {
+pub fn profile_of_state(state: &State, measured: &Measured) -> Vec<u16> {
     let mut room = vec![0; 8191];
-    let outcome = revolution::revolution(state, start_time, distances, echoes, &mut room);
+    let outcome = revolution::revolution(state, measured, &mut room);
     room.truncate(outcome.count);
     room
 }
@@ -27,21 +28,22 @@ fn readable_mask(random: &mut Random) -> u16 {
     }
 }
 
-/// A profile that the sensor wrote.
+/// A profile that the sensor wrote, now and then a mixed one.
 fn written_profile(random: &mut Random) -> Vec<u16> {
     let mut state = if random.percent(1) { random_states::largest_state(random) } else { few_points_state(random) };
     if random.percent(95) {
-        state.job = Job::Endless { mask: readable_mask(random), sent: random.word() };
+        state.job = Job::Endless { mask: Mask::Plain(readable_mask(random)), sent: random.word() };
     }
     let shots = random_states::shots_asked_of_lists(&state);
     let distances: Vec<u16> = (0..shots).map(|_| random.word()).collect();
     let echoes: Vec<u16> = (0..shots).map(|_| random.word()).collect();
     let start_time = random.word();
-    profile_of_state(&state, start_time, &distances, &echoes)
+    let measured = Measured { start_time, distances: &distances, echoes: &echoes, reflectors: &[] };
+    profile_of_state(&state, &measured)
 }
 
 /// A state in MEASURE whose profile has few points most of the time.
-fn few_points_state(random: &mut Random) -> State {
+pub fn few_points_state(random: &mut Random) -> State {
     let mut state = random_states::state_in_ranges(random, Mode::Measure);
     if random.percent(75) {
         let laser_shots = 1 + random.below(12);
@@ -55,6 +57,12 @@ fn laid_out_profile(random: &mut Random) -> Vec<u16> {
     let mask = readable_mask(random);
     let sectors = 1 + random.below(8);
     let mut words = vec![0x8301, mask, 0x0100 + sectors as u16];
+    push_laid_out(random, &mut words, mask, sectors);
+    words
+}
+
+/// The words of bits 0 to 13.
+pub fn push_laid_out(random: &mut Random, words: &mut Vec<u16>, mask: u16, sectors: usize) {
     for bit in 0..3 {
         if has_bit(mask, bit) {
             words.push(random_requests::edge_word(random));
@@ -83,7 +91,6 @@ fn laid_out_profile(random: &mut Random) -> Vec<u16> {
     if has_bit(mask, 13) {
         words.extend([random.word(), random.word()]);
     }
-    words
 }
 
 fn damage_words(random: &mut Random, words: &mut Vec<u16>) {
@@ -170,7 +177,7 @@ fn damage_points_count(random: &mut Random, words: &mut [u16]) {
     if refusal != 0 || reading.mask.is_some_and(|mask| !has_bit(mask, 5)) {
         return;
     }
-    let sector = reading.sectors[random.below(reading.sector_count)];
+    let sector = reading.contour.sectors[random.below(reading.contour.sector_count)];
     let mask = reading.mask.unwrap_or(0);
     let fields_behind = usize::from(has_bit(mask, 6)) + usize::from(has_bit(mask, 7));
     let place = sector.points_place - fields_behind - 1;

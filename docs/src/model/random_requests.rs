@@ -1,6 +1,7 @@
-// Random requests for fresh cases and talks: the eighteen services with sensible words and with words at the edges, and
+// Random requests for fresh cases and talks: the twenty services with sensible words and with words at the edges, and
 // requests that are wrong in their code or in their number of words.
 
+use crate::mask;
 use crate::plan::Plan;
 use crate::random::Random;
 use crate::random_plans;
@@ -40,6 +41,17 @@ fn asked_mask(random: &mut Random) -> u16 {
         4 => 0xFFFF,
         _ => random_states::job_mask(random),
     }
+}
+
+/// Both words of a mask for GET_MIXED_PROFILE; two of five are none.
+fn asked_mixed_mask(random: &mut Random) -> [u16; 2] {
+    let any = (random.number() >> 32) as u32;
+    mask::mixed_words(match random.weighted(&[60, 25, 10, 5]) {
+        0 => random_states::mixed_mask(random),
+        1 => random_states::bad_mixed_mask(random),
+        2 => 1 << random.below(32) | random_states::mixed_mask(random),
+        _ => any,
+    })
 }
 
 /// A direction for SET_ROTATE_DIRECTION; one of three is none.
@@ -121,6 +133,11 @@ pub fn good_words(random: &mut Random, service: &Service) -> Vec<u16> {
             let any = edge_word(random);
             words.push(random.pick(&[0, speed, speed, 1, 4, 5, 20, 21, any]));
         }
+        services::GET_MIXED_PROFILE => {
+            let any = edge_word(random);
+            words.push(random.pick(&[0, 0, 1, 2, 65535, any]));
+            words.extend(asked_mixed_mask(random));
+        }
         services::SET_ROTATE_DIRECTION => words.push(asked_rotate_direction(random)),
         services::SET_REFLECTOR_CONFIG => words.extend([asked_threshold(random), asked_radius(random)]),
         _ => {}
@@ -156,7 +173,7 @@ pub fn code_beside(random: &mut Random, code: u16) -> u16 {
         code.swap_bytes(),
         code & 0x00FF,
         code & 0xFF00,
-        // the other one of 0201h and 1201h, and of 0202h and 1202h
+        // the other one of 0201h and 1201h, of 0202h and 1202h, and of the two services for each kind of profiles
         code ^ 0x1000,
         0,
         65535,

@@ -1,12 +1,13 @@
 // Random states for fresh cases: states in their ranges in each mode, and damage to single fields at the edges of the
 // ranges.
 
+use crate::mask::{self, Mask};
 use crate::plan::{self, Plan};
 use crate::random::Random;
 use crate::random_plans;
 use crate::state::{Job, Mode, ReflectorConfig, Settings, State};
 
-/// A mask that a job can have.
+/// A plain mask that a job can have.
 pub fn job_mask(random: &mut Random) -> u16 {
     let mask = match random.below(9) {
         0 => 1 << random.below(14),
@@ -26,8 +27,50 @@ pub fn job_mask(random: &mut Random) -> u16 {
     }
 }
 
+/// A mixed mask that a job can have.
+pub fn mixed_mask(random: &mut Random) -> u32 {
+    let low = if random.percent(35) { 0 } else { job_mask(random) };
+    let high = match random.below(8) {
+        0 => 0,
+        1 => 0x0001,
+        2 => 0x007D,
+        3 => 0x0001 | 0x0004 << random.below(5),
+        4 => 0x007D & !(0x0004 << random.below(5)),
+        _ => 0x0001 | random.word() & 0x007C,
+    };
+    match mask::mixed_number(high, low) {
+        0 => 0x0001_0000,
+        mask => mask,
+    }
+}
+
+/// A mixed mask that no job can have: each bit that it must not have alone, 18 to 22 without 16, none at all.
+pub fn bad_mixed_mask(random: &mut Random) -> u32 {
+    let good = mixed_mask(random);
+    let bit = random.pick(&[14, 15, 17, 23, 24, 25, 26, 27, 28, 29, 30, 31]);
+    let field = 1 << (18 + random.below(5));
+    match random.below(8) {
+        0 => 0,
+        1 => 1 << bit,
+        2 => field,
+        3 => good & !0x0001_0000 | field,
+        4 => 1 << bit | 1 << random.below(32),
+        5 => random.pick(&[0xFFFF_FFFF, 0xFFFF_0000, 0x007C_3FFF, 0x007D_FFFF, 0x0002_0001, 0x0000_FFFF]),
+        _ => good | 1 << bit,
+    }
+}
+
+/// A mask of either kind that a job can have.
+fn any_mask(random: &mut Random) -> Mask {
+    if random.percent(50) {
+        Mask::Plain(job_mask(random))
+    } else {
+        Mask::Mixed(mixed_mask(random))
+    }
+}
+
 fn job(random: &mut Random) -> Job {
-    let mask = job_mask(random);
+    let mask = any_mask(random);
     match random.weighted(&[15, 45, 40]) {
         0 => Job::Absent,
         1 => {
@@ -139,19 +182,20 @@ pub fn measure_at_edges(random: &mut Random) -> State {
     state_around(random, Mode::Measure, step, speed, plan)
 }
 
-/// A state in MEASURE with the largest profile there is, or nearly.
+/// A state in MEASURE with the largest profile there is, plain or mixed, or nearly.
 pub fn largest_state(random: &mut Random) -> State {
     let (step, speed, plan) = random_plans::largest_setting(random);
     let mut state = state_around(random, Mode::Measure, step, speed, plan);
-    let mask = if random.percent(50) { 0x3FFF } else { job_mask(random) };
+    let all_bits = random.pick(&[Mask::Plain(0x3FFF), Mask::Mixed(0x007D_3FFF)]);
+    let mask = if random.percent(50) { all_bits } else { any_mask(random) };
     state.job = Job::Endless { mask, sent: random.word() };
     state
 }
 
-/// Sets one of the 48 words of a state to an edge of its range, or just outside of it.
+/// Sets one of the 50 words of a state to an edge of its range, or just outside of it.
 pub fn damage_state_words(random: &mut Random, words: &mut [u16]) {
-    // each of the twelve kinds of fields as often as the others
-    let place = match random.below(12) {
+    // each of the thirteen kinds of fields as often as the others
+    let place = match random.below(13) {
         0 => 0,
         1 => 1,
         2 => 2,
@@ -163,7 +207,8 @@ pub fn damage_state_words(random: &mut Random, words: &mut [u16]) {
         8 => 36,
         9 => 37 + random.below(2),
         10 => 39 + random.below(4),
-        _ => 43 + random.below(5),
+        11 => 43 + random.below(5),
+        _ => 48 + random.below(2),
     };
     let old = words[place];
     words[place] = match place {
@@ -182,6 +227,12 @@ pub fn damage_state_words(random: &mut Random, words: &mut [u16]) {
         40 => random.pick(&[0, 0, 1, 65535, old.wrapping_add(1)]),
         41 => random.pick(&[0, 0x4000, 0x8000, 0xC000, 0xFFFF, old | 0x4000, old | 0x8000, 1]),
         42 => random.pick(&[0, 65534, 65535, old.wrapping_add(1)]),
+        // the kind of the mask and its high word
+        48 => random.pick(&[0, 1, 2, 256, 65535]),
+        49 => {
+            let one_bit = 1 << random.below(16);
+            random.pick(&[0, 1, 2, 4, 0x007C, 0x0080, 0x8000, 0xFFFF, old ^ 1, old ^ one_bit, old ^ one_bit])
+        }
         // direction of rotation, thresholds, radii
         43 => random.pick(&[0, 1, 2, 2, 255, 256, 257, 0xFF01, 65535]),
         44 | 46 => random.pick(&[0, 0, 1, 100, 101, 101, 256, 306, 0xFF01, 65535]),
@@ -204,6 +255,12 @@ pub fn state_words_maybe_damaged(random: &mut Random, state: &State) -> Vec<u16>
     for _ in 0..damages {
         damage_state_words(random, &mut words);
     }
+    // a mixed mask that is none
+    if words[39] != 0 && words[48] == 1 && random.percent(5) {
+        let [high, low] = mask::mixed_words(bad_mixed_mask(random));
+        words[49] = high;
+        words[41] = low;
+    }
     // words that the mode or the job do not use
     if random.percent(5) {
         if words[39] == 0 {
@@ -212,6 +269,12 @@ pub fn state_words_maybe_damaged(random: &mut Random, state: &State) -> Vec<u16>
         }
         if words[39] != 1 {
             words[40] = random.word();
+        }
+        if words[39] == 0 || words[48] == 0 {
+            words[49] = random.word();
+        }
+        if words[39] == 0 || words[48] == 1 {
+            words[48] = random.pick(&[2, 256, 65535]);
         }
         if words[35] == 3 {
             words[35] = random.pick(&[0, 4, 256, 65535]);

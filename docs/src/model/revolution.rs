@@ -1,16 +1,23 @@
-// Rules 5.1 to 5.8, the sensor's side: the call of a revolution with refusals 1, 7, 8 and 6,
-// and the words of a profile in their order.
+// Rules 5.1 to 5.8, 5.19 and 5.20, the sensor's side: the call of a revolution with refusals 1, 7, 8, 27 and 6,
+// and the words of a plain or a mixed profile in their order.
 
+use crate::mask::{self, has_bit, Mask};
 use crate::plan;
+use crate::reflectors;
 use crate::state::{Job, Mode, Outcome, State};
 
-/// Whether a bit of a mask is set.
-pub fn has_bit(mask: u16, bit: u16) -> bool {
-    mask >> bit & 1 == 1
+/// What a revolution is given beside the state and the buffer.
+#[derive(Clone, Copy)]
+pub struct Measured<'a> {
+    pub start_time: u16,
+    pub distances: &'a [u16],
+    pub echoes: &'a [u16],
+    pub reflectors: &'a [u16],
 }
 
-/// A revolution: refusals 1, 7, 8, 6 in this order (rule 6.1). The profile goes to the front of the buffer, the words behind it stay.
-pub fn revolution(state: &State, start_time: u16, distances: &[u16], echoes: &[u16], buffer: &mut [u16]) -> Outcome {
+/// A revolution: refusals 1, 7, 8, 27, 6 in this order (rule 6.1). The profile goes to the front of the buffer, the words
+/// behind it stay.
+pub fn revolution(state: &State, measured: &Measured, buffer: &mut [u16]) -> Outcome {
     if !state.in_ranges() {
         return Outcome::refused(1, state);
     }
@@ -18,8 +25,12 @@ pub fn revolution(state: &State, start_time: u16, distances: &[u16], echoes: &[u
         return Outcome::refused(7, state);
     }
     let shots = plan::shots_per_revolution(state.step);
-    if distances.len() != shots || echoes.len() != shots {
+    if measured.distances.len() != shots || measured.echoes.len() != shots {
         return Outcome::refused(8, state);
+    }
+    // whatever the job (rule 5.1)
+    if !reflectors::list_fits(measured.reflectors) {
+        return Outcome::refused(27, state);
     }
     // rules 5.2 and 5.3
     let mut next = *state;
@@ -30,12 +41,12 @@ pub fn revolution(state: &State, start_time: u16, distances: &[u16], echoes: &[u
             let left = left - 1;
             let sent = sent + 1;
             next.job = if left == 0 { Job::Absent } else { Job::Counted { left, mask, sent } };
-            profile_words(&next, mask, sent, start_time, distances, echoes)
+            profile_words(&next, mask, sent, measured)
         }
         Job::Endless { mask, sent } => {
             let sent = sent.wrapping_add(1);
             next.job = Job::Endless { mask, sent };
-            profile_words(&next, mask, sent, start_time, distances, echoes)
+            profile_words(&next, mask, sent, measured)
         }
     };
     if buffer.len() < profile.len() {
@@ -52,11 +63,33 @@ pub fn time_of_shot(state: &State, start_time: u16, shot: usize) -> u16 {
     ((usize::from(start_time) + after_start) % 65536) as u16
 }
 
-/// The words of a profile in the order of rules 5.4 to 5.7; the state is the one after the rise of the counter.
-fn profile_words(state: &State, mask: u16, sent: u16, start_time: u16, distances: &[u16], echoes: &[u16]) -> Vec<u16> {
+/// The words of a profile; the state is the one after the rise of the counter.
+fn profile_words(state: &State, mask: Mask, sent: u16, measured: &Measured) -> Vec<u16> {
+    let sectors = 0x0100 + plan::active_sectors(&state.working_plan).len() as u16;
+    match mask {
+        // rule 5.4
+        Mask::Plain(mask) => {
+            let mut words = vec![0x8301, mask, sectors];
+            words.extend(contour_words(state, u32::from(mask), sent, 0, measured));
+            words
+        }
+        // rule 5.19
+        Mask::Mixed(mask) => {
+            let [high, low] = mask::mixed_words(mask);
+            let mut words = vec![0x9301, high, low, sectors];
+            words.extend(contour_words(state, mask, sent, 1, measured));
+            words.extend(reflectors::words_in_profile(mask, measured.reflectors));
+            words
+        }
+    }
+}
+
+/// The words of bits 0 to 13 in the order of rules 5.5 to 5.7.
+fn contour_words(state: &State, mask: u32, sent: u16, layer: u16, measured: &Measured) -> Vec<u16> {
     let active = plan::active_sectors(&state.working_plan);
     let shots = plan::walk_of_shots(&state.working_plan, state.step);
-    let mut words = vec![0x8301, mask, 0x0100 + active.len() as u16];
+    let Measured { start_time, distances, echoes, .. } = *measured;
+    let mut words = Vec::new();
     let mut give = |bit: u16, word: u16| {
         if has_bit(mask, bit) {
             words.push(word);
@@ -64,7 +97,7 @@ fn profile_words(state: &State, mask: u16, sent: u16, start_time: u16, distances
     };
     give(0, sent);
     give(1, state.counter);
-    give(2, 0);
+    give(2, layer);
     for (number, sector) in active.iter().enumerate() {
         // the numbers of this sector's shots, in order
         let own: Vec<usize> = (0..shots.len()).filter(|shot| shots[*shot].sector == number).collect();

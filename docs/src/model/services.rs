@@ -1,5 +1,6 @@
-// Rules, section 4: the table of the 18 services, what each does and answers, and refusals 1 to 6 of a request.
+// Rules, section 4: the table of the 20 services, what each does and answers, and refusals 1 to 6 of a request.
 
+use crate::mask::{self, Mask};
 use crate::measure_checks;
 use crate::plan;
 use crate::plan::Sector;
@@ -22,6 +23,8 @@ pub const SET_ROTATE_DIRECTION: u16 = 0x1201;
 pub const SET_REFLECTOR_CONFIG: u16 = 0x1202;
 pub const GET_ROTATE_DIRECTION: u16 = 0x1211;
 pub const GET_REFLECTOR_CONFIG: u16 = 0x1212;
+pub const GET_MIXED_PROFILE: u16 = 0x1301;
+pub const CANCEL_MIXED_PROFILE: u16 = 0x1302;
 pub const SAVE_PERMANENT: u16 = 0x1701;
 
 /// The one item of SET_CONFIG and GET_CONFIG.
@@ -29,7 +32,7 @@ pub const CONFIG_ITEM: u16 = 0x0010;
 
 const NO_SUCH: u16 = 0xFFFF;
 
-/// What stands in the place of a setting that is out of its range (rules 4.19 and 4.20).
+/// What stands in the place of a setting that is out of its range (rules 4.19 and 4.20), and behind a mask that is (rule 4.23).
 const OUT_OF_RANGE: u16 = 0xFF01;
 
 pub struct Service {
@@ -45,7 +48,7 @@ const IDLE_ROTATE: &[Mode] = &[Mode::Idle, Mode::Rotate];
 const ROTATE_MEASURE: &[Mode] = &[Mode::Rotate, Mode::Measure];
 const MEASURE: &[Mode] = &[Mode::Measure];
 
-pub const TABLE: [Service; 18] = [
+pub const TABLE: [Service; 20] = [
     Service { name: "GET_STATUS", code: GET_STATUS, words_in: 1, modes: ALL },
     Service { name: "GET_SIGNAL", code: GET_SIGNAL, words_in: 1, modes: ALL },
     Service { name: "SET_SIGNAL", code: SET_SIGNAL, words_in: 2, modes: ALL },
@@ -63,6 +66,8 @@ pub const TABLE: [Service; 18] = [
     Service { name: "SET_REFLECTOR_CONFIG", code: SET_REFLECTOR_CONFIG, words_in: 3, modes: IDLE_ROTATE },
     Service { name: "GET_ROTATE_DIRECTION", code: GET_ROTATE_DIRECTION, words_in: 1, modes: ALL },
     Service { name: "GET_REFLECTOR_CONFIG", code: GET_REFLECTOR_CONFIG, words_in: 1, modes: ALL },
+    Service { name: "GET_MIXED_PROFILE", code: GET_MIXED_PROFILE, words_in: 4, modes: MEASURE },
+    Service { name: "CANCEL_MIXED_PROFILE", code: CANCEL_MIXED_PROFILE, words_in: 1, modes: MEASURE },
     Service { name: "SAVE_PERMANENT", code: SAVE_PERMANENT, words_in: 1, modes: IDLE_ROTATE },
 ];
 
@@ -112,13 +117,15 @@ fn serve(state: &mut State, words: &[u16]) -> Vec<u16> {
         GET_FUNCTION => answer.extend(get_function(state, words[1])),
         GET_PROFILE => {
             // the code alone, or no word where a job starts
-            if start_job(state, words[1], words[2]) {
+            if start_plain_job(state, words[1], words[2]) {
                 answer.clear();
             }
         }
         CANCEL_PROFILE => {
             // rule 4.11
-            state.job = Job::Absent;
+            if let Some(Mask::Plain(_)) = state.job.mask() {
+                state.job = Job::Absent;
+            }
             answer.extend(state.senstat());
         }
         DO_RESET => {
@@ -142,6 +149,21 @@ fn serve(state: &mut State, words: &[u16]) -> Vec<u16> {
         SET_REFLECTOR_CONFIG => answer.extend(set_reflector_config(state, words[1], words[2])),
         GET_ROTATE_DIRECTION => answer.push(state.settings.rotate_direction),
         GET_REFLECTOR_CONFIG => answer.extend(get_reflector_config(state)),
+        GET_MIXED_PROFILE => {
+            // the mask and FF01h, or no word where a job starts
+            if start_mixed_job(state, words[1], words[2], words[3]) {
+                answer.clear();
+            } else {
+                answer.extend([words[2], words[3], OUT_OF_RANGE]);
+            }
+        }
+        CANCEL_MIXED_PROFILE => {
+            // rule 4.24
+            if let Some(Mask::Mixed(_)) = state.job.mask() {
+                state.job = Job::Absent;
+            }
+            answer.push(0);
+        }
         SAVE_PERMANENT => {
             // rule 4.22
             state.settings.stored = state.settings.working;
@@ -201,13 +223,32 @@ fn get_function(state: &State, sector: u16) -> [u16; 3] {
     [sector, found.function, found.stop]
 }
 
+/// The job that takes the place of any other (rules 4.10 and 4.23).
+fn new_job(number: u16, mask: Mask) -> Job {
+    if number == 0 {
+        Job::Endless { mask, sent: 0 }
+    } else {
+        Job::Counted { left: number, mask, sent: 0 }
+    }
+}
+
 /// GET_PROFILE: whether there is a new job (rule 4.10).
-fn start_job(state: &mut State, number: u16, mask: u16) -> bool {
+fn start_plain_job(state: &mut State, number: u16, mask: u16) -> bool {
     let mask = mask & 0x3FFF;
     if mask == 0 {
         return false;
     }
-    state.job = if number == 0 { Job::Endless { mask, sent: 0 } } else { Job::Counted { left: number, mask, sent: 0 } };
+    state.job = new_job(number, Mask::Plain(mask));
+    true
+}
+
+/// GET_MIXED_PROFILE: whether there is a new job (rule 4.23). No bit is dropped.
+fn start_mixed_job(state: &mut State, number: u16, high: u16, low: u16) -> bool {
+    let mask = mask::mixed_number(high, low);
+    if !mask::mixed_in_range(mask) {
+        return false;
+    }
+    state.job = new_job(number, Mask::Mixed(mask));
     true
 }
 

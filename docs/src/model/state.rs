@@ -1,5 +1,6 @@
 // Rules, section 2: what the sensor holds, the range of each part, and the fresh state.
 
+use crate::mask::Mask;
 use crate::measure_checks;
 use crate::plan::{self, Plan, Sector};
 
@@ -10,12 +11,12 @@ pub enum Mode {
     Measure,
 }
 
-/// A profile job (rule 2.7).
+/// A profile job (rule 2.7), of a plain or of a mixed profile.
 #[derive(Clone, Copy, PartialEq, Eq, Debug)]
 pub enum Job {
     Absent,
-    Counted { left: u16, mask: u16, sent: u16 },
-    Endless { mask: u16, sent: u16 },
+    Counted { left: u16, mask: Mask, sent: u16 },
+    Endless { mask: Mask, sent: u16 },
 }
 
 /// What tells reflectors from other things (rule 2.10): the threshold in percent, the radius in millimetres.
@@ -77,11 +78,6 @@ fn plan_in_range(plan: &Plan) -> bool {
     plan.iter().all(|sector| [0, 1, 3, 4].contains(&sector.function) && sector.stop < plan::CIRCLE)
 }
 
-/// A mask that a job may have (rule 2.7).
-fn job_mask_in_range(mask: u16) -> bool {
-    mask != 0 && mask & 0xC000 == 0
-}
-
 /// Rule 2.10, and so thresholds and radii below.
 pub fn rotate_direction_in_range(direction: u16) -> bool {
     direction <= 1
@@ -106,6 +102,15 @@ impl Settings {
     /// Rule 2.10.
     fn in_ranges(&self) -> bool {
         rotate_direction_in_range(self.rotate_direction) && self.working.in_ranges() && self.stored.in_ranges()
+    }
+}
+
+impl Job {
+    pub fn mask(self) -> Option<Mask> {
+        match self {
+            Job::Absent => None,
+            Job::Counted { mask, .. } | Job::Endless { mask, .. } => Some(mask),
+        }
     }
 }
 
@@ -157,17 +162,17 @@ impl State {
             || measure_checks::measure_error(&self.working_plan, self.step, self.running_speed) == 0
     }
 
-    /// Rule 2.7.
+    /// Rules 2.7 and 2.11.
     fn job_in_range(&self) -> bool {
         match self.job {
             Job::Absent => true,
             Job::Counted { left, mask, sent } => {
                 self.mode == Mode::Measure
-                    && job_mask_in_range(mask)
+                    && mask.in_range()
                     && left >= 1
                     && u32::from(left) + u32::from(sent) <= 65535
             }
-            Job::Endless { mask, .. } => self.mode == Mode::Measure && job_mask_in_range(mask),
+            Job::Endless { mask, .. } => self.mode == Mode::Measure && mask.in_range(),
         }
     }
 

@@ -3,6 +3,8 @@
 
 use crate::case_parts;
 use crate::format;
+use crate::stored_mixed;
+use crate::stored_mixed_readings;
 use crate::stored_plans;
 use crate::stored_readings;
 use crate::stored_requests;
@@ -13,13 +15,13 @@ use crate::stored_times;
 
 /// Cases that lack words or have some too many, and kinds that there are not.
 fn cases_of_the_format() -> Vec<Vec<u16>> {
-    let mut cases = vec![vec![6], vec![], vec![0], vec![8], vec![65535], vec![257], vec![6, 1, 2, 3]];
-    for kind in 1..=7 {
+    let mut cases = vec![vec![6], vec![], vec![0], vec![8], vec![13], vec![65535], vec![257], vec![6, 1, 2, 3]];
+    for kind in 1..=12 {
         cases.push(vec![kind]);
         cases.push(vec![kind, 1]);
     }
     let state = format::state_words(&idle());
-    for length in [1, 2, 3, 4, 19, 35, 36, 37, 43, 44, 45, 46, 47, 48] {
+    for length in [1, 2, 3, 4, 19, 35, 36, 37, 43, 44, 45, 46, 47, 48, 49, 50] {
         let mut case = vec![1];
         case.extend(&state[..length]);
         cases.push(case);
@@ -48,6 +50,8 @@ pub fn input() -> Vec<u8> {
         stored_revolutions::cases(),
         stored_times::cases(),
         stored_settings::cases(),
+        stored_mixed::cases(),
+        stored_mixed_readings::cases(),
         cases_of_the_format(),
     ];
     for case in topics.iter().flatten() {

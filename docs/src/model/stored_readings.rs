@@ -2,15 +2,17 @@
 // refusals 12 to 17 and 22 to 24 alone and together, and cuts in every part of a profile.
 
 use crate::case_parts;
+use crate::mask::has_bit;
 use crate::random_profiles::profile_of_state;
-use crate::revolution::has_bit;
+use crate::revolution::Measured;
 use crate::state::State;
 use crate::stored_samples::*;
 
 type Cases = Vec<Vec<u16>>;
 
 fn profile_of(state: &State) -> Vec<u16> {
-    profile_of_state(state, 65500, &distances(90).words(), &echoes(90).words())
+    let (distances, echoes) = (distances(90).words(), echoes(90).words());
+    profile_of_state(state, &Measured { start_time: 65500, distances: &distances, echoes: &echoes, reflectors: &[] })
 }
 
 /// A profile of three sectors and two points.
@@ -168,7 +170,7 @@ fn bench_figure(cases: &mut Cases) {
 
 /// Words in the order of rules 5.4 and 5.5 for any mask and any third word, most of them values that no other word has.
 /// Bits 14 and 15 have no word, and without bit 5 there are no points (rule 5.10).
-fn laid_out(mask: u16, word_2: u16, points: &[u16]) -> Vec<u16> {
+pub fn laid_out(mask: u16, word_2: u16, points: &[u16]) -> Vec<u16> {
     fn give(words: &mut Vec<u16>, bits: std::ops::Range<u16>) {
         for bit in bits {
             if has_bit(words[1], bit) {

@@ -34,6 +34,7 @@ fn working_words(code: u16) -> Vec<u16> {
         SET_FUNCTION => vec![code, 2, 3, 4000, 1],
         GET_FUNCTION => vec![code, 3],
         GET_PROFILE => vec![code, 5, 0x0120],
+        GET_MIXED_PROFILE => vec![code, 6, 0x0011, 0x2001],
         DO_RESET => vec![code, 1],
         TRANS_ROTATE => vec![code, 15],
         SET_ROTATE_DIRECTION => vec![code, 1],
@@ -256,7 +257,8 @@ fn counts_and_codes(cases: &mut Cases) {
         }
         let code = service.code;
         for other in [code + 1, code - 1, code + 0x8000, code.swap_bytes(), code ^ 0x1000] {
-            if services::service_of(other).is_none() {
+            // 1301h and 1302h as well, which are 0301h and 0302h but for a bit
+            if services::service_of(other).is_none() || (code & 0xFF00 == 0x0300 && other == code ^ 0x1000) {
                 let mut words = working_words(service.code);
                 words[0] = other;
                 ask(cases, &state_in(mode, job), &words);
@@ -288,6 +290,8 @@ fn buffers(cases: &mut Cases) {
     asked.push((measure(ENDLESS_SAMPLE), vec![GET_PROFILE, 1, 0xC000]));
     asked.push((measure(ENDLESS_SAMPLE), vec![DO_RESET, 2]));
     asked.push((rotating(10, 10, State::fresh().working_plan), vec![TRANS_MEASURE]));
+    asked.push((measure(ENDLESS_MIXED_SAMPLE), vec![GET_MIXED_PROFILE, 1, 0x0002, 0x0001]));
+    asked.push((measure(COUNTED_MIXED_SAMPLE), vec![CANCEL_MIXED_PROFILE]));
     asked.push((idle(), vec![SET_ROTATE_DIRECTION, 2]));
     asked.push((idle(), vec![SET_REFLECTOR_CONFIG, 101, 19]));
     asked.push((idle(), vec![SET_REFLECTOR_CONFIG, 88, 128]));
@@ -304,10 +308,11 @@ fn buffers(cases: &mut Cases) {
 
 /// Refusals 1 to 6, alone and with each other one that can apply as well.
 fn refusals_together(cases: &mut Cases) {
-    let services: [(State, State, Vec<u16>); 3] = [
+    let services: [(State, State, Vec<u16>); 4] = [
         (idle(), rotate(), vec![SET_CONFIG, 0x0010, 9, 19, 10]),
         (measure(COUNTED_SAMPLE), idle(), vec![GET_PROFILE, 2, 0x8000]),
         (idle(), measure(COUNTED_SAMPLE), vec![SET_REFLECTOR_CONFIG, 101, 128]),
+        (measure(COUNTED_MIXED_SAMPLE), rotate(), vec![GET_MIXED_PROFILE, 2, 0x0004, 0x0000]),
     ];
     for (fitting, other, words) in services {
         let mut unknown = words.clone();

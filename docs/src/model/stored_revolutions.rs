@@ -3,6 +3,7 @@
 
 use crate::case_parts::{self, TurnGiven};
 use crate::format;
+use crate::mask::Mask;
 use crate::plan::{self, Plan};
 use crate::random_plans::{all_steps, NO_STEPS};
 use crate::state::{Job, Mode, State};
@@ -16,7 +17,13 @@ type Cases = Vec<Vec<u16>>;
 pub const NEAR_WRAP: u16 = 65500;
 
 pub fn turn_of(shots: usize, start_time: u16, room: usize) -> TurnGiven {
-    TurnGiven { start_time, distances: distances(shots), echoes: echoes(shots), buffer: buffer(room) }
+    TurnGiven {
+        start_time,
+        distances: distances(shots),
+        echoes: echoes(shots),
+        reflectors: NO_REFLECTORS,
+        buffer: buffer(room),
+    }
 }
 
 /// The number of words that a revolution of this state writes.
@@ -25,7 +32,13 @@ fn profile_length(state: &State) -> usize {
         return 0;
     }
     let shots = plan::shots_per_revolution(state.step);
-    let turn = Turn { start_time: 0, distances: vec![0; shots], echoes: vec![0; shots], buffer: vec![0; 8191] };
+    let turn = Turn {
+        start_time: 0,
+        distances: vec![0; shots],
+        echoes: vec![0; shots],
+        reflectors: Vec::new(),
+        buffer: vec![0; 8191],
+    };
     trial::turn_outcome(state, &turn).0.count
 }
 
@@ -42,14 +55,14 @@ fn measuring(step: u16, running_speed: u16, sectors: &[(u16, u16)], mask: u16) -
         step,
         running_speed,
         working_plan: plan_of(sectors),
-        job: Job::Counted { left: 2, mask, sent: 0 },
+        job: Job::Counted { left: 2, mask: Mask::Plain(mask), sent: 0 },
         ..measure(Job::Absent)
     }
 }
 
 fn bench_figures(cases: &mut Cases) {
     let fresh = State { mode: Mode::Measure, running_speed: 10, ..State::fresh() };
-    let with_mask = |mask: u16| State { job: Job::Endless { mask, sent: 0 }, ..fresh };
+    let with_mask = |mask: u16| State { job: Job::Endless { mask: Mask::Plain(mask), sent: 0 }, ..fresh };
     turn_once(cases, &with_mask(0x0120), 0);
     turn_once(cases, &with_mask(0x38FF), 0);
     let stop_0 = State { working_plan: plan_of(&[(3, 0)]), ..with_mask(0x38FF) };
@@ -104,7 +117,7 @@ fn sectors(cases: &mut Cases) {
         for place in count + 1..8 {
             leftovers.working_plan[place] = plan::Sector { function: 3, stop: 5759 };
         }
-        leftovers.job = Job::Endless { mask: 0x1838, sent: 0 };
+        leftovers.job = Job::Endless { mask: Mask::Plain(0x1838), sent: 0 };
         turn_once(cases, &leftovers, 0);
     }
     // all of one function, and the stop that lets sector 0 begin at 0
@@ -121,8 +134,8 @@ fn sectors(cases: &mut Cases) {
 }
 
 fn wraps(cases: &mut Cases) {
-    let head = 0x0007;
-    let base = small_state(head);
+    let base = small_state(0x0007);
+    let head = Mask::Plain(0x0007);
     for counter in [0, 1, 65534, 65535] {
         turn_once(cases, &State { counter, ..base }, 0);
         turn_once(cases, &State { counter, job: Job::Absent, ..base }, 0);
@@ -135,7 +148,7 @@ fn wraps(cases: &mut Cases) {
     {
         turn_once(cases, &State { job: Job::Counted { left, mask: head, sent }, ..base }, 0);
     }
-    let ends = State { counter: 65535, job: Job::Counted { left: 1, mask: 0x2007, sent: 65534 }, ..base };
+    let ends = State { counter: 65535, job: Job::Counted { left: 1, mask: Mask::Plain(0x2007), sent: 65534 }, ..base };
     turn_once(cases, &ends, 65535);
     for start_time in [0, 1, 65435, 65436, 65437, 65534, 65535] {
         turn_once(cases, &small_state(0x1840), start_time);

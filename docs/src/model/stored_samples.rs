@@ -1,6 +1,7 @@
 // Plans, states, lists and buffers that the stored cases are built from.
 
 use crate::format::ListGiven;
+use crate::mask::Mask;
 use crate::plan::{self, Plan, Sector};
 use crate::state::{Job, Mode, ReflectorConfig, Settings, State};
 
@@ -22,8 +23,10 @@ pub fn stored_sample() -> Plan {
     plan_of(&[(3, 8), (4, 5752), (0, 1), (1, 2), (0, 3), (4, 4), (3, 5), (1, 6)])
 }
 
-pub const COUNTED_SAMPLE: Job = Job::Counted { left: 3, mask: 0x0121, sent: 7 };
-pub const ENDLESS_SAMPLE: Job = Job::Endless { mask: 0x3FFF, sent: 65535 };
+pub const COUNTED_SAMPLE: Job = Job::Counted { left: 3, mask: Mask::Plain(0x0121), sent: 7 };
+pub const ENDLESS_SAMPLE: Job = Job::Endless { mask: Mask::Plain(0x3FFF), sent: 65535 };
+pub const COUNTED_MIXED_SAMPLE: Job = Job::Counted { left: 4, mask: Mask::Mixed(0x0025_0121), sent: 9 };
+pub const ENDLESS_MIXED_SAMPLE: Job = Job::Endless { mask: Mask::Mixed(0x007D_3FFF), sent: 65535 };
 
 pub fn settings_of(rotate_direction: u16, working: (u16, u16), stored: (u16, u16)) -> Settings {
     let config = |(threshold, radius): (u16, u16)| ReflectorConfig { threshold, radius };
@@ -69,9 +72,14 @@ pub fn small_state(mask: u16) -> State {
     State {
         step: 64,
         working_plan: plan_of(&[(1, 640), (3, 768), (4, 5696)]),
-        job: Job::Counted { left: 3, mask, sent: 7 },
+        job: Job::Counted { left: 3, mask: Mask::Plain(mask), sent: 7 },
         ..measure(Job::Absent)
     }
+}
+
+/// The same sensor with a mixed job.
+pub fn small_mixed_state(mask: u32) -> State {
+    State { job: Job::Counted { left: 3, mask: Mask::Mixed(mask), sent: 7 }, ..small_state(1) }
 }
 
 /// Up to eight sectors for step 64, all functions, all with few shots but one.
@@ -91,6 +99,13 @@ pub fn buffer(length: usize) -> ListGiven {
 
 pub fn distances(length: usize) -> ListGiven {
     ListGiven { length: length as u16, first: 0x1001, rise: 0x0101 }
+}
+
+pub const NO_REFLECTORS: ListGiven = ListGiven { length: 0, first: 0, rise: 0 };
+
+/// The words of reflectors, each another than all others.
+pub fn reflectors(length: usize) -> ListGiven {
+    ListGiven { length: length as u16, first: 0x7001, rise: 0x0011 }
 }
 
 pub fn echoes(length: usize) -> ListGiven {

@@ -1,11 +1,12 @@
-// Rules 2.1 to 2.8 and 2.10: every field of a state at the edges of its range and just outside of them, alone, as
+// Rules 2.1 to 2.8, 2.10 and 2.11: every field of a state at the edges of its range and just outside of them, alone, as
 // words of a state for the stored cases.
 
 use crate::format;
+use crate::mask::Mask;
 use crate::plan;
 use crate::random_plans::NO_STEPS;
 use crate::state::{Job, Mode, State};
-use crate::stored_samples::{idle, measure, rotate, small_state, COUNTED_SAMPLE, ENDLESS_SAMPLE};
+use crate::stored_samples::*;
 
 const ID: usize = 0;
 const SPEED: usize = 1;
@@ -24,6 +25,8 @@ const WORKING_THRESHOLD: usize = 44;
 const WORKING_RADIUS: usize = 45;
 const STORED_THRESHOLD: usize = 46;
 const STORED_RADIUS: usize = 47;
+const KIND_OF_MASK: usize = 48;
+const HIGH_WORD: usize = 49;
 
 /// The words of the state with one word set to each of the values in turn.
 fn with_each(state: &State, place: usize, values: &[u16]) -> Vec<Vec<u16>> {
@@ -110,9 +113,58 @@ pub fn settings_just_outside(state: &State) -> Vec<Vec<u16>> {
     all
 }
 
+/// Both words of mixed masks that are none by rule 2.11: each bit that has no word, beside bits that may be; each of 18 to 22
+/// without 16; no bit.
+pub fn bad_mixed_masks() -> Vec<[u16; 2]> {
+    let mut masks = vec![[0, 0], [0x007C, 0x3FFF], [0xFFFF, 0xFFFF], [0x007D, 0xC000]];
+    masks.extend([0x4001, 0x8001].map(|low| [0x0001, low]));
+    masks.extend([1, 7, 8, 9, 10, 11, 12, 13, 14, 15].map(|bit| [1 | 1 << bit, 0x0001]));
+    masks.extend([2, 3, 4, 5, 6].map(|bit| [1 << bit, 0x0001]));
+    masks
+}
+
+/// States in MEASURE with mixed jobs whose masks are out of their range, and some whose masks are in it.
+pub fn mixed_masks_of_states() -> Vec<Vec<u16>> {
+    let mut all = Vec::new();
+    let good = [[0, 1], [1, 0], [0x007D, 0x3FFF], [0x0041, 0x0000]];
+    for [high, low] in bad_mixed_masks().into_iter().chain(good) {
+        let mut words = format::state_words(&State { job: COUNTED_MIXED_SAMPLE, ..small_state(1) });
+        words[HIGH_WORD] = high;
+        words[MASK] = low;
+        all.push(words);
+    }
+    all
+}
+
+/// The same, and the other words of mixed jobs at their edges.
+pub fn mixed_job_fields() -> Vec<Vec<u16>> {
+    let mut all = mixed_masks_of_states();
+    let counted = State { job: COUNTED_MIXED_SAMPLE, ..small_state(1) };
+    for state in [counted, State { job: ENDLESS_MIXED_SAMPLE, ..counted }] {
+        all.extend(with_each(&state, KIND_OF_MASK, &[0, 2, 256, 65535]));
+        all.extend(with_each(&state, MASK, &[0, 0x4000, 0x8000]));
+        all.extend(with_each(&state, LEFT, &[0, 65526, 65527]));
+    }
+    // the high word of a plain mask, and kind and high word where there is no job, are not looked at
+    for state in [small_state(1), State { job: ENDLESS_SAMPLE, ..counted }] {
+        all.extend(with_each(&state, HIGH_WORD, &[1, 0x0002, 65535]));
+    }
+    let mut absent = format::state_words(&State { job: Job::Absent, ..counted });
+    absent[KIND_OF_MASK] = 1;
+    absent[HIGH_WORD] = 65535;
+    all.push(absent);
+    all
+}
+
+/// A mixed job outside of MEASURE.
+pub fn mixed_jobs_elsewhere() -> Vec<Vec<u16>> {
+    let jobs = [COUNTED_MIXED_SAMPLE, ENDLESS_MIXED_SAMPLE];
+    jobs.map(|job| [idle(), rotate()].map(|state| format::state_words(&State { job, ..state }))).concat()
+}
+
 /// MEASURE with plans that pass the checks of TRANS_MEASURE just so, and that just fail.
 pub fn measure_plans() -> Vec<Vec<u16>> {
-    let base = State { job: Job::Endless { mask: 0x0001, sent: 0 }, ..small_state(1) };
+    let base = State { job: Job::Endless { mask: Mask::Plain(0x0001), sent: 0 }, ..small_state(1) };
     let settings: [(u16, u16, &[(u16, u16)]); 17] = [
         // no active sector, stops that are equal or fall, and such stops behind the active ones
         (64, 10, &[]),

@@ -1,14 +1,13 @@
 // Stored cases of the times of shots, rule 3.7: at every rate of shots that may measure, the shots whose exact times lie
-// next to half a millisecond on either side and, where there is one, at the half itself.
+// next to half a millisecond on either side and, where there is one, at the half itself. They are asked for by plain numbers,
+// which leaves the state out of case and line.
 
 use std::collections::BTreeSet;
 
 use crate::case_parts::{self, TurnGiven};
-use crate::format;
 use crate::measure_checks::measure_error;
-use crate::plan::{self, CIRCLE};
+use crate::plan::{self, Plan, CIRCLE};
 use crate::random_plans::all_steps;
-use crate::state::{Job, State};
 use crate::stored_samples::*;
 
 /// What is left of a shot's exact time behind its whole milliseconds, where a millisecond is 2 × the shots of a second.
@@ -26,7 +25,7 @@ fn shots_next_to_half(shots: usize, shots_per_second: usize) -> [Option<usize>; 
 }
 
 /// A plan from direction 0 on, in which each of these shots is a sector of its own.
-fn plan_around(picked: &[usize], step: u16) -> plan::Plan {
+fn plan_around(picked: &[usize], step: u16) -> Plan {
     let mut stops: Vec<u16> = picked.iter().flat_map(|shot| [shot - 1, *shot]).map(|shot| shot as u16 * step).collect();
     stops.push(CIRCLE - step);
     stops.sort();
@@ -37,21 +36,21 @@ fn plan_around(picked: &[usize], step: u16) -> plan::Plan {
 
 /// The times of each sector's first and last shot. The start is such that the shot at the half, or else the one above it, comes
 /// to 65535 and the half: the clock has wrapped only because it goes up.
-fn around_half(step: u16, running_speed: u16) -> (State, TurnGiven) {
+fn around_half(step: u16, running_speed: u16) -> (Plan, TurnGiven) {
     let shots = plan::shots_per_revolution(step);
     let shots_per_second = usize::from(running_speed) * shots;
     let [below, just, above] = shots_next_to_half(shots, shots_per_second);
     let picked: Vec<usize> = [below, just, above].into_iter().flatten().collect();
-    let working_plan = plan_around(&picked, step);
+    let plan = plan_around(&picked, step);
     let whole = just.or(above).map_or(0, |shot| 2000 * shot / (2 * shots_per_second));
     let turn = TurnGiven {
         start_time: (65535 - whole) as u16,
         distances: distances(shots),
         echoes: echoes(shots),
+        reflectors: NO_REFLECTORS,
         buffer: buffer(3 + 2 * 8),
     };
-    let job = Job::Counted { left: 2, mask: 0x0840, sent: 0 };
-    (State { step, running_speed, working_plan, ..measure(job) }, turn)
+    (plan, turn)
 }
 
 pub fn cases() -> Vec<Vec<u16>> {
@@ -59,11 +58,11 @@ pub fn cases() -> Vec<Vec<u16>> {
     let mut rates = BTreeSet::new();
     for step in all_steps() {
         for speed in 5..=20 {
-            let (state, turn) = around_half(step, speed);
-            let may_measure = measure_error(&state.working_plan, step, speed) == 0;
+            let (plan, turn) = around_half(step, speed);
+            let may_measure = measure_error(&plan, step, speed) == 0;
             // the times go by the rate alone: one case for each
             if may_measure && rates.insert(usize::from(speed) * plan::shots_per_revolution(step)) {
-                cases.push(case_parts::revolution_case(&format::state_words(&state), &turn));
+                cases.push(case_parts::plain_profile_case(&plan, step, speed, 0x0840, &turn));
             }
         }
     }

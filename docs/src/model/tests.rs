@@ -1,11 +1,14 @@
 // Holds the model to every bench figure of the rules, to the program's dialogue printed there, and to what the rules
 // say of the calls together: lengths, reading back, where cut words end, the reader's refusals in order, plans that run
-// alike. The settings of the NAV300 have tests_settings.rs. Run: rustc --edition 2021 --test main.rs.
+// alike. The settings of the NAV300 have tests_settings.rs,
+// mixed profiles tests_mixed.rs. Run: rustc --edition 2021 --test main.rs.
 
 use crate::case_parts::{self, TurnGiven};
 use crate::cuts;
 use crate::format;
 use crate::fresh_cases;
+use crate::layout::{Contour, EarlyEnd, Part};
+use crate::mask::{has_bit, Mask};
 use crate::measure_checks::measure_error;
 use crate::plan::{self, Plan};
 use crate::program;
@@ -13,13 +16,13 @@ use crate::random::Random;
 use crate::random_plans;
 use crate::random_profiles::profile_of_state;
 use crate::random_states;
-use crate::reader::{self, EarlyEnd, Part, Reading};
-use crate::revolution::{has_bit, revolution, time_of_shot};
+use crate::reader::{self, Reading};
+use crate::revolution::{revolution, time_of_shot, Measured};
 use crate::services::{self, *};
 use crate::state::{Job, Mode, State};
 use crate::stored_cases;
 use crate::stored_readings::TWO_SECTORS;
-use crate::stored_samples::{buffer, distances, echoes, plan_of, plan_of_length, small_state};
+use crate::stored_samples::{buffer, distances, echoes, plan_of, plan_of_length, small_state, NO_REFLECTORS};
 use crate::talk;
 use crate::trial::{self, Call};
 use std::collections::BTreeSet;
@@ -46,14 +49,15 @@ fn rotating(step: u16, running_speed: u16, working_plan: Plan) -> State {
 }
 
 fn measuring(step: u16, running_speed: u16, working_plan: Plan, mask: u16) -> State {
-    State { mode: Mode::Measure, job: Job::Endless { mask, sent: 0 }, ..rotating(step, running_speed, working_plan) }
+    let job = Job::Endless { mask: Mask::Plain(mask), sent: 0 };
+    State { mode: Mode::Measure, job, ..rotating(step, running_speed, working_plan) }
 }
 
 fn profile(state: &State, start_time: u16) -> Vec<u16> {
     let shots = plan::shots_per_revolution(state.step);
     let distances: Vec<u16> = (0..shots as u16).collect();
     let echoes: Vec<u16> = (0..shots as u16).map(|shot| 0x8000 + shot).collect();
-    profile_of_state(state, start_time, &distances, &echoes)
+    profile_of_state(state, &Measured { start_time, distances: &distances, echoes: &echoes, reflectors: &[] })
 }
 
 fn error_of(state: &State) -> u16 {
@@ -82,6 +86,7 @@ fn fresh_state_is_in_its_ranges() {
     }
     words.extend([1, 0, 0, 0, 0, 0, 0, 0]);
     words.extend([1, 50, 0, 50, 0]);
+    words.extend([0, 0]);
     assert_eq!(format::state_words(&fresh), words);
 }
 
@@ -236,7 +241,7 @@ fn cut(part: Part, index: usize) -> (u16, Reading) {
 #[test]
 fn bench_cuts() {
     let (refusal, reading) = reader::read(&TWO_SECTORS);
-    assert_eq!((refusal, reading.sector_count, reading.early_end), (0, 2, None));
+    assert_eq!((refusal, reading.contour.sector_count, reading.early_end), (0, 2, None));
     assert_eq!(put_together(&TWO_SECTORS, &reading), TWO_SECTORS);
     for (length, refusal) in [(0, 12), (1, 13), (2, 13)] {
         assert_eq!(reader::read(&TWO_SECTORS[..length]), (refusal, Reading::default()));
@@ -285,10 +290,15 @@ fn refusals_of_a_request_in_order() {
     let state = measuring(8, 10, fresh.working_plan, 1);
     assert_eq!(
         services::request(&state, &[GET_PROFILE, 3, 0xC001], &mut []).state.job,
-        Job::Counted { left: 3, mask: 1, sent: 0 }
+        Job::Counted { left: 3, mask: Mask::Plain(1), sent: 0 }
     );
     assert_eq!(refusal(&state, &[GET_PROFILE, 3, 0xC000], 0), 6);
     assert_eq!(served(&state, &[GET_PROFILE, 3, 0xC000]), (vec![0x8301], state));
+}
+
+/// Start time 0, one list for distances and echoes, no reflectors.
+fn measured(list: &[u16]) -> Measured<'_> {
+    Measured { start_time: 0, distances: list, echoes: list, reflectors: &[] }
 }
 
 #[test]
@@ -296,7 +306,7 @@ fn refusals_of_a_revolution_in_order() {
     let state = measuring(64, 10, plan_of(&[(1, 0)]), 1);
     let refused = |state: &State, shots: usize, room: usize| {
         let list = vec![0; shots];
-        let outcome = revolution(state, 0, &list, &list, &mut vec![0; room]);
+        let outcome = revolution(state, &measured(&list), &mut vec![0; room]);
         if outcome.refusal != 0 {
             assert_eq!((outcome.count, outcome.state), (0, *state));
         }
@@ -315,15 +325,16 @@ fn jobs_count_and_wrap() {
     let list = vec![0; 90];
     let mut state = measuring(64, 10, plan_of(&[(1, 0)]), 0x0003);
     state.counter = 65535;
+    let mask = Mask::Plain(3);
     let turn = |state: &State| {
         let mut room = [0; 5];
-        let outcome = revolution(state, 0, &list, &list, &mut room);
+        let outcome = revolution(state, &measured(&list), &mut room);
         (outcome.state, room)
     };
     for (job, next, sent) in [
-        (Job::Endless { mask: 3, sent: 65535 }, Job::Endless { mask: 3, sent: 0 }, 0),
-        (Job::Counted { left: 2, mask: 3, sent: 0 }, Job::Counted { left: 1, mask: 3, sent: 1 }, 1),
-        (Job::Counted { left: 1, mask: 3, sent: 65534 }, Job::Absent, 65535),
+        (Job::Endless { mask, sent: 65535 }, Job::Endless { mask, sent: 0 }, 0),
+        (Job::Counted { left: 2, mask, sent: 0 }, Job::Counted { left: 1, mask, sent: 1 }, 1),
+        (Job::Counted { left: 1, mask, sent: 65534 }, Job::Absent, 65535),
     ] {
         state.job = job;
         assert_eq!(turn(&state), (State { counter: 0, job: next, ..state }, [0x8301, 3, 0x0101, sent, 0]));
@@ -337,13 +348,13 @@ fn jobs_count_and_wrap() {
 fn length_of_a_profile() {
     let mut random = Random::new(7);
     let mut longest = 0;
-    for round in 0..3000 {
+    for round in 0..5000 {
         let state = if round % 50 == 0 {
             random_states::largest_state(&mut random)
         } else {
             random_states::state_in_ranges(&mut random, Mode::Measure)
         };
-        let (Job::Counted { mask, .. } | Job::Endless { mask, .. }) = state.job else { continue };
+        let Some(Mask::Plain(mask)) = state.job.mask() else { continue };
         let bits = |wanted: u16| (mask & wanted).count_ones() as usize;
         let active = plan::active_sectors(&state.working_plan);
         let shots = plan::walk_of_shots(&state.working_plan, state.step);
@@ -360,17 +371,26 @@ fn length_of_a_profile() {
 fn put_together(words: &[u16], reading: &Reading) -> Vec<u16> {
     let mut again = vec![0x8301];
     again.extend(reading.mask);
-    again.push(0x0100 + reading.sector_count as u16);
-    again.extend([reading.sent, reading.counter, reading.layer].into_iter().flatten());
-    for place in 0..reading.sector_count {
-        let sector = reading.sectors[place];
+    again.push(0x0100 + reading.contour.sector_count as u16);
+    again.extend(contour_together(&reading.contour, |place| {
+        assert_eq!(reader::stretch_refusal(words, place), 0);
+        reader::stretch(words, place).to_vec()
+    }));
+    again
+}
+
+/// The words of bits 0 to 13 of a reading, with the stretches of its sectors.
+pub(crate) fn contour_together(contour: &Contour, stretch: impl Fn(u16) -> Vec<u16>) -> Vec<u16> {
+    let mut again = Vec::new();
+    again.extend([contour.sent, contour.counter, contour.layer].into_iter().flatten());
+    for place in 0..contour.sector_count {
+        let sector = contour.sectors[place];
         let before = [sector.number, sector.step, sector.points, sector.first_time, sector.first_direction];
         again.extend(before.into_iter().flatten());
-        assert_eq!(reader::stretch_refusal(words, place as u16), 0);
-        again.extend(reader::stretch(words, place as u16));
+        again.extend(stretch(place as u16));
         again.extend([sector.last_time, sector.last_direction].into_iter().flatten());
     }
-    again.extend(reading.senstat.into_iter().flatten());
+    again.extend(contour.senstat.into_iter().flatten());
     again
 }
 
@@ -382,9 +402,10 @@ fn a_reading_gives_the_profile_back() {
         let state = random_states::state_in_ranges(&mut random, Mode::Measure);
         let words = profile(&state, random.word());
         let (refusal, reading) = reader::read(&words);
-        match state.job {
-            Job::Absent => assert_eq!((refusal, words.len()), (12, 0)),
-            Job::Counted { mask, .. } | Job::Endless { mask, .. } => {
+        match state.job.mask() {
+            None => assert_eq!((refusal, words.len()), (12, 0)),
+            Some(Mask::Mixed(_)) => assert_eq!(refusal, 12),
+            Some(Mask::Plain(mask)) => {
                 let points_without_number = mask & 0x0700 != 0 && !has_bit(mask, 5);
                 assert_eq!(refusal, if points_without_number { 14 } else { 0 });
             }
@@ -392,7 +413,7 @@ fn a_reading_gives_the_profile_back() {
         if refusal == 0 {
             assert_eq!(put_together(&words, &reading), words);
             assert_eq!(reader::read(&words[..words.len() - 1]).0, if words.len() == 3 { 13 } else { 15 });
-            assert_eq!(reader::stretch_refusal(&words, reading.sector_count as u16), 17);
+            assert_eq!(reader::stretch_refusal(&words, reading.contour.sector_count as u16), 17);
             let mut longer = words.clone();
             longer.push(0);
             assert_eq!(reader::read(&longer), (16, Reading::default()));
@@ -438,7 +459,7 @@ fn points_of_plan(plan: &Plan, step: u16) -> Vec<usize> {
 
 /// Every cut of what this state sends, held to the lengths of its parts; how many of them ended in each part.
 fn hold_cuts(state: &State, ended: &mut [usize; 3]) {
-    let (Job::Counted { mask, .. } | Job::Endless { mask, .. }) = state.job else { return };
+    let Some(Mask::Plain(mask)) = state.job.mask() else { return };
     let lengths = part_lengths(mask, &points_of_plan(&state.working_plan, state.step));
     let words = profile(state, 0);
     assert_eq!(words.len(), lengths.iter().sum());
@@ -507,7 +528,13 @@ fn cuts_of_the_stored_profiles() {
 /// The command `cuts`: of each profile that the reader takes all cuts, once, from whatever call it comes.
 #[test]
 fn cuts_of_cases() {
-    let turn = TurnGiven { start_time: 0, distances: distances(90), echoes: echoes(90), buffer: buffer(60) };
+    let turn = TurnGiven {
+        start_time: 0,
+        distances: distances(90),
+        echoes: echoes(90),
+        reflectors: NO_REFLECTORS,
+        buffer: buffer(60),
+    };
     let turned = |mask: u16| case_parts::revolution_case(&format::state_words(&small_state(mask)), &turn);
     let plan = small_state(1).working_plan;
     let plain = |mask: u16| case_parts::plain_profile_case(&plan, 64, 10, mask, &turn);
@@ -528,8 +555,10 @@ fn cuts_of_cases() {
     ] {
         format::push_case(&mut input, &case);
     }
-    let all_bits = trial::plain_profile_state(plan, 64, 10, 0x3FFF);
-    let all_words = profile_of_state(&all_bits, 0, &turn.distances.words(), &turn.echoes.words());
+    let all_bits = trial::profile_state(plan, 64, 10, Mask::Plain(0x3FFF));
+    let (distances, echoes) = (turn.distances.words(), turn.echoes.words());
+    let given = Measured { start_time: 0, distances: &distances, echoes: &echoes, reflectors: &[] };
+    let all_words = profile_of_state(&all_bits, &given);
     let profiles = [&TWO_SECTORS[..], &all_words, &[0x8301, 0x2000, 0x0103, 0, 3], &[0x8301, 0x0005, 0x0103, 1, 0]];
     let mut expected = Vec::new();
     for words in profiles {
@@ -539,7 +568,7 @@ fn cuts_of_cases() {
     cuts::write_cuts(&input, &mut |bytes| written.extend_from_slice(bytes));
     assert_eq!(format::cases_of_input(&written), expected);
     assert_eq!(expected.len(), 12 + 35 + 5 + 5);
-    assert_eq!(cuts::count(&input), "4 profiles, 57 cuts\n");
+    assert_eq!(cuts::count(&input), "4 profiles, 57 cuts; of these mixed 0, 0 cuts\n");
 }
 
 /// How many points the sectors have by their words of bit 5, up to the first of these words that is not there.
@@ -653,7 +682,7 @@ fn the_first_that_is_due_is_given() {
         }
     }
     // any of the first six, with 15, with 16 or with neither; beside 13, where 15 holds too, any of 12, 22 and 14
-    for choice in 0..256 {
+    for choice in 0..256u16 {
         let faults = [12, 22, 23, 24, 14, 17, 15, 16];
         let chosen: BTreeSet<u16> =
             (0..8).filter(|bit| has_bit(choice, *bit)).map(|bit| faults[bit as usize]).collect();
@@ -677,7 +706,7 @@ fn fresh_readings_have_every_refusal_and_part() {
     let mut random = Random::new(15);
     let mut numbers = [0; 25];
     let mut parts = [0; 4];
-    for _ in 0..30_000 {
+    for _ in 0..40_000 {
         if let Call::Read { words } = trial::call_of_case(&fresh_cases::case(&mut random)) {
             let (refusal, reading) = reader::read(&words);
             numbers[usize::from(refusal)] += 1;
@@ -751,7 +780,7 @@ fn a_normal_plan_runs_alike() {
 fn ranges_are_kept() {
     let mut random = Random::new(10);
     let mut served = 0;
-    for _ in 0..20000 {
+    for _ in 0..25000 {
         let case = fresh_cases::case(&mut random);
         let (refusal, words) = trial::answer(&trial::call_of_case(&case));
         let kind = case.first().copied().unwrap_or(0);
@@ -799,7 +828,7 @@ fn stored_cases_are_small_enough() {
         format::push_line(&mut lines, place + 1, refusal, &words);
     }
     let size = input.len() + lines.len();
-    assert!((900_000..1_400_000).contains(&size), "{size} bytes");
+    assert!((1_400_000..1_750_000).contains(&size), "{size} bytes");
 }
 
 #[test]

@@ -6,7 +6,7 @@ use crate::fresh_cases;
 use crate::program;
 use crate::random::Random;
 use crate::random_states;
-use crate::revolution::revolution;
+use crate::revolution::{revolution, Measured};
 use crate::services;
 use crate::state::{Job, Mode, Outcome, Settings, State};
 use crate::stored_samples::{idle, measure, rotate, settings_of, small_state, states_of_all_modes, COUNTED_SAMPLE};
@@ -260,7 +260,7 @@ fn reads_in_all_modes() {
     }
 }
 
-/// Whether one of the last five words of a state is in its range (rule 2.10): direction, thresholds, radii.
+/// Whether one of the five words of a state that are settings is in its range (rule 2.10): direction, thresholds, radii.
 fn word_in_range(place: usize, word: u16) -> bool {
     match place {
         43 => word == 0 || word == 1,
@@ -278,7 +278,7 @@ fn state_of(words: &[u16]) -> State {
 fn every_word_of_the_settings() {
     for state in [idle(), rotate(), small_state(0x0001)] {
         let good = format::state_words(&state);
-        assert_eq!(good.len(), 48);
+        assert_eq!(good.len(), 50);
         assert!(state.in_ranges());
         for place in 43..48 {
             let mut words = good.clone();
@@ -301,13 +301,14 @@ fn all_words_of_the_settings_together() {
         for thresholds in [1, 100, 0, 101].map(|working| [1, 100, 0, 101].map(|stored| (working, stored))).concat() {
             for radii in [0, 127, 128].map(|working| [0, 127, 128].map(|stored| (working, stored))).concat() {
                 let mut words = good.clone();
-                words[43..].copy_from_slice(&[direction, thresholds.0, radii.0, thresholds.1, radii.1]);
+                words[43..48].copy_from_slice(&[direction, thresholds.0, radii.0, thresholds.1, radii.1]);
                 let fits = (43..48).all(|place| word_in_range(place, words[place]));
                 let state = state_of(&words);
                 assert_eq!(state.in_ranges(), fits);
                 let expected = if fits { 0 } else { 1 };
                 assert_eq!(services::request(&state, &[0x0102], &mut [0; 3]).refusal, expected);
-                assert_eq!(revolution(&state, 0, &list, &list, &mut [0; 4]).refusal, expected);
+                let given = Measured { start_time: 0, distances: &list, echoes: &list, reflectors: &[] };
+                assert_eq!(revolution(&state, &given, &mut [0; 4]).refusal, expected);
             }
         }
     }
@@ -326,11 +327,14 @@ fn no_revolution_goes_by_the_settings() {
         let shots = random_states::shots_asked_of_lists(&state) + usize::from(random.percent(5));
         let distances: Vec<u16> = (0..shots).map(|_| random.word()).collect();
         let echoes: Vec<u16> = (0..shots).map(|_| random.word()).collect();
+        let reflectors = vec![random.word(); if random.percent(95) { 11 * random.below(65) } else { 715 }];
         let start_time = random.word();
-        let room = if random.percent(90) { 6544 } else { random.below(20) };
+        let room = if random.percent(90) { 7250 } else { random.below(20) };
         let turn = |state: &State| {
             let mut buffer = vec![0xBBBB; room];
-            let outcome = revolution(state, start_time, &distances, &echoes, &mut buffer);
+            let measured =
+                Measured { start_time, distances: &distances, echoes: &echoes, reflectors: &reflectors };
+            let outcome = revolution(state, &measured, &mut buffer);
             (outcome, buffer)
         };
         let (outcome, buffer) = turn(&state);
@@ -342,7 +346,7 @@ fn no_revolution_goes_by_the_settings() {
         other_settings += usize::from(other.settings != state.settings);
     }
     assert!(other_settings > 3500, "{other_settings}");
-    assert!([0, 7, 8, 6].iter().all(|number| by_refusal[number] > 80), "{by_refusal:?}");
+    assert!([0, 7, 8, 27, 6].iter().all(|number| by_refusal[number] > 80), "{by_refusal:?}");
 }
 
 /// Rule 4.4 over fresh cases: which calls change the settings, and which part of them; all these changes occur.
@@ -350,7 +354,7 @@ fn no_revolution_goes_by_the_settings() {
 fn only_four_services_change_the_settings() {
     let mut random = Random::new(25);
     let mut changed: BTreeMap<u16, usize> = BTreeMap::new();
-    for _ in 0..40_000 {
+    for _ in 0..60_000 {
         let call = trial::call_of_case(&fresh_cases::case(&mut random));
         let (before, outcome, code) = match &call {
             Call::Request { state, buffer, words } => {
@@ -389,7 +393,7 @@ fn fresh_requests_have_every_answer() {
     // answers without FF01h, with it in the first place, in the second, in both
     let mut of_1201 = [0; 2];
     let mut of_1202 = [0; 4];
-    for _ in 0..40_000 {
+    for _ in 0..60_000 {
         let Call::Request { state, words, .. } = trial::call_of_case(&fresh_cases::case(&mut random)) else { continue };
         let mut room = [0; 8];
         if services::request(&state, &words, &mut room).refusal == 0 {

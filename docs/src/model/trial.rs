@@ -1,9 +1,11 @@
 // The calls of the rules as the trials ask them: what a case gives to which call, and the words of its line.
 
 use crate::format::{self, CaseWords};
+use crate::mask::Mask;
+use crate::mixed_reader;
 use crate::plan::{self, Plan};
 use crate::reader;
-use crate::revolution;
+use crate::revolution::{self, Measured};
 use crate::services;
 use crate::state::{Job, Mode, Outcome, State};
 
@@ -14,12 +16,18 @@ pub const READ: u16 = 4;
 pub const STRETCH: u16 = 5;
 pub const FRESH_STATE: u16 = 6;
 pub const PLAIN_PROFILE: u16 = 7;
+pub const READ_MIXED: u16 = 8;
+pub const STRETCH_MIXED: u16 = 9;
+pub const REFLECTOR: u16 = 10;
+pub const ALL_REFLECTORS: u16 = 11;
+pub const MIXED_PROFILE: u16 = 12;
 
 /// What a revolution is given beside the state.
 pub struct Turn {
     pub start_time: u16,
     pub distances: Vec<u16>,
     pub echoes: Vec<u16>,
+    pub reflectors: Vec<u16>,
     pub buffer: Vec<u16>,
 }
 
@@ -31,14 +39,21 @@ pub enum Call {
     Stretch { place: u16, words: Vec<u16> },
     FreshState,
     PlainProfile { state: State, turn: Turn },
+    ReadMixed { words: Vec<u16> },
+    StretchMixed { place: u16, words: Vec<u16> },
+    Reflector { place: u16, words: Vec<u16> },
+    AllReflectors { words: Vec<u16> },
+    MixedProfile { state: State, turn: Turn },
 }
 
-fn turn_of_case(words: &mut CaseWords) -> Turn {
+/// What kinds 2 and 12 are given behind the state or the mask; kind 7 has no list of reflectors.
+fn turn_of_case(words: &mut CaseWords, with_reflectors: bool) -> Turn {
     let start_time = words.word();
     let distances = words.list();
     let echoes = words.list();
+    let reflectors = if with_reflectors { words.list() } else { Vec::new() };
     let buffer = words.list();
-    Turn { start_time, distances, echoes, buffer }
+    Turn { start_time, distances, echoes, reflectors, buffer }
 }
 
 pub fn call_of_case(case: &[u16]) -> Call {
@@ -51,7 +66,7 @@ pub fn call_of_case(case: &[u16]) -> Call {
         }
         REVOLUTION => {
             let state = words.state();
-            Call::Revolution { state, turn: turn_of_case(&mut words) }
+            Call::Revolution { state, turn: turn_of_case(&mut words, true) }
         }
         NORMAL_PLAN => {
             let step = words.word();
@@ -67,16 +82,35 @@ pub fn call_of_case(case: &[u16]) -> Call {
             let step = words.word();
             let running_speed = words.word();
             let mask = words.word();
-            let state = plain_profile_state(plan, step, running_speed, mask);
-            Call::PlainProfile { state, turn: turn_of_case(&mut words) }
+            let state = profile_state(plan, step, running_speed, Mask::Plain(mask));
+            Call::PlainProfile { state, turn: turn_of_case(&mut words, false) }
+        }
+        READ_MIXED => Call::ReadMixed { words: words.others() },
+        STRETCH_MIXED => {
+            let place = words.word();
+            Call::StretchMixed { place, words: words.others() }
+        }
+        REFLECTOR => {
+            let place = words.word();
+            Call::Reflector { place, words: words.others() }
+        }
+        ALL_REFLECTORS => Call::AllReflectors { words: words.others() },
+        MIXED_PROFILE => {
+            let plan = words.plan();
+            let step = words.word();
+            let running_speed = words.word();
+            let high = words.word();
+            let low = words.word();
+            let state = profile_state(plan, step, running_speed, Mask::mixed(high, low));
+            Call::MixedProfile { state, turn: turn_of_case(&mut words, true) }
         }
         // "Another kind is answered as kind 6."
         _ => Call::FreshState,
     }
 }
 
-/// What kind 7 turns (rule 5.9).
-pub fn plain_profile_state(plan: Plan, step: u16, running_speed: u16, mask: u16) -> State {
+/// What kinds 7 and 12 turn (rules 5.9 and 5.21).
+pub fn profile_state(plan: Plan, step: u16, running_speed: u16, mask: Mask) -> State {
     State {
         step,
         working_plan: plan,
@@ -91,7 +125,13 @@ pub fn plain_profile_state(plan: Plan, step: u16, running_speed: u16, mask: u16)
 /// The revolution of a turn: its outcome and the buffer after it.
 pub fn turn_outcome(state: &State, turn: &Turn) -> (Outcome, Vec<u16>) {
     let mut buffer = turn.buffer.clone();
-    let outcome = revolution::revolution(state, turn.start_time, &turn.distances, &turn.echoes, &mut buffer);
+    let measured = Measured {
+        start_time: turn.start_time,
+        distances: &turn.distances,
+        echoes: &turn.echoes,
+        reflectors: &turn.reflectors,
+    };
+    let outcome = revolution::revolution(state, &measured, &mut buffer);
     (outcome, buffer)
 }
 
@@ -126,8 +166,20 @@ pub fn answer(call: &Call) -> (u16, Vec<u16>) {
             (reader::stretch_refusal(words, *place), reader::stretch(words, *place).to_vec())
         }
         Call::FreshState => (0, format::state_words(&State::fresh())),
-        // "The refusal of kind 7 is 0: that call hands back the count alone."
-        Call::PlainProfile { state, turn } => {
+        Call::ReadMixed { words } => {
+            let (refusal, reading) = mixed_reader::read(words);
+            (refusal, format::mixed_reading_words(&reading))
+        }
+        Call::StretchMixed { place, words } => {
+            (mixed_reader::stretch_refusal(words, *place), mixed_reader::stretch(words, *place).to_vec())
+        }
+        Call::Reflector { place, words } => {
+            (mixed_reader::reflector_refusal(words, *place), mixed_reader::reflector(words, *place).to_vec())
+        }
+        // its refusal is "the reading's"
+        Call::AllReflectors { words } => (mixed_reader::read(words).0, mixed_reader::all_reflectors(words).to_vec()),
+        // "The refusal of kinds 7 and 12 is 0: those calls hand back the count alone."
+        Call::PlainProfile { state, turn } | Call::MixedProfile { state, turn } => {
             let (outcome, buffer) = turn_outcome(state, turn);
             let mut words = vec![outcome.count as u16];
             words.extend(buffer);
