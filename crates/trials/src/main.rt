@@ -60,7 +60,7 @@ fn read_case(bytes: &mut [u8], words: &mut [u16]) -> Next
 fn main() {
     let mut bytes = [0u8; 16384];
     let mut words = [0u16; 8192];
-    let mut out = [0u16; 8240];
+    let mut out = [0u16; 8242];
     let mut text = [0u8; 42000];
     let mut number: u64 = 0;
     while number < u64::MAX {

@@ -1,6 +1,9 @@
 // A reading as words.
 use crate::answers::put;
 use crate::answers::put_number;
+use reader::MixedPart;
+use reader::MixedPlace;
+use reader::MixedReading;
 use reader::Part;
 use reader::Place;
 use reader::Reading;
@@ -79,6 +82,28 @@ fn put_place(out: &mut [u16], at: usize, place: Place) -> usize {
     }
 }
 
+// The words of bits 0 to 2, which stand in front of the sectors in either kind of profile.
+fn put_front(out: &mut [u16], at: usize, sent: Word, counter: Word, layer: Word) -> usize {
+    let mut next = put_word(out, at, sent);
+    next = put_word(out, next, counter);
+    put_word(out, next, layer)
+}
+
+// How many sectors there are, the sectors, and SENSTAT.
+fn put_rest(
+    out: &mut [u16],
+    at: usize,
+    count: usize,
+    sectors: [SectorReading; 8],
+    high: Word,
+    low: Word,
+) -> usize {
+    let mut next = put_number(out, at, count);
+    next = put_sectors(out, next, sectors);
+    next = put_word(out, next, high);
+    put_word(out, next, low)
+}
+
 // The whole reading; how many words it has.
 pub(crate) fn put_reading(out: &mut [u16], reading: Reading) -> usize {
     let mask = reading.mask;
@@ -90,12 +115,55 @@ pub(crate) fn put_reading(out: &mut [u16], reading: Reading) -> usize {
     let low = reading.low;
     let place = reading.place;
     let mut next = put_word(out, 0, mask);
-    next = put_word(out, next, sent);
-    next = put_word(out, next, counter);
-    next = put_word(out, next, layer);
-    next = put_number(out, next, reading.count);
-    next = put_sectors(out, next, sectors);
-    next = put_word(out, next, high);
-    next = put_word(out, next, low);
+    next = put_front(out, next, sent, counter, layer);
+    next = put_rest(out, next, reading.count, sectors, high, low);
     put_place(out, next, place)
+}
+
+// The part of a mixed profile by its number, and the place of the sector or of the reflector, 0 in another part.
+fn put_mixed_part(out: &mut [u16], at: usize, part: MixedPart) -> usize {
+    match part {
+        MixedPart::Contour(inner) => put_part(out, at, inner),
+        MixedPart::Count => {
+            let next = put(out, at, 4);
+            put(out, next, 0)
+        }
+        MixedPart::Reflector(r) => {
+            let next = put(out, at, 5);
+            put_number(out, next, r)
+        }
+    }
+}
+
+// Where the words of a mixed profile end early: 0 for nowhere, or the part and the index.
+fn put_mixed_place(out: &mut [u16], at: usize, place: MixedPlace) -> usize {
+    match place {
+        MixedPlace::Nowhere => put(out, at, 0),
+        MixedPlace::At(index, part) => {
+            let next = put_mixed_part(out, at, part);
+            put_number(out, next, index)
+        }
+    }
+}
+
+// The whole reading of a mixed profile; how many words it has.
+pub(crate) fn put_mixed_reading(out: &mut [u16], reading: MixedReading) -> usize {
+    let upper = reading.upper;
+    let lower = reading.lower;
+    let sent = reading.sent;
+    let counter = reading.counter;
+    let layer = reading.layer;
+    let sectors = reading.sectors;
+    let high = reading.high;
+    let low = reading.low;
+    let reflectors = reading.reflectors;
+    let place = reading.place;
+    let mut next = put_word(out, 0, upper);
+    next = put_word(out, next, lower);
+    next = put_front(out, next, sent, counter, layer);
+    next = put_rest(out, next, reading.count, sectors, high, low);
+    next = put_word(out, next, reflectors);
+    next = put_number(out, next, reading.start);
+    next = put_number(out, next, reading.width);
+    put_mixed_place(out, next, place)
 }

@@ -2,6 +2,7 @@
 use crate::answers::put;
 use crate::cases::rest;
 use flat::plan_of;
+use layout::Mask;
 use plan::Plan;
 use state::Job;
 use state::Mode;
@@ -14,7 +15,7 @@ use units::Percent;
 use words::word_at;
 
 // How many words a state has.
-pub(crate) const STATE_WORDS: usize = 48;
+pub(crate) const STATE_WORDS: usize = 50;
 
 // The mode of a word.
 fn mode_of(w: u16) -> Mode {
@@ -25,8 +26,16 @@ fn mode_of(w: u16) -> Mode {
     }
 }
 
-// The job of four words.
-fn job_of(kind: u16, left: u16, mask: u16, sent: u16) -> Job {
+// The mask of its kind, 0 for a plain one, and of two words; a plain one has the low word alone.
+fn mask_of(kind: u16, high: u16, low: u16) -> Mask {
+    match kind {
+        0 => Mask::Plain(low),
+        _ => Mask::Mixed(high, low),
+    }
+}
+
+// The job of three words and a mask.
+fn job_of(kind: u16, left: u16, mask: Mask, sent: u16) -> Job {
     match kind {
         0 => Job::Absent,
         1 => Job::Counted { left, mask, sent },
@@ -65,10 +74,11 @@ pub(crate) fn state_of(words: &[u16]) -> State {
     let stored = plan_of(rest(words, 19));
     let planned = state::with_plans(configured, working, stored);
     let mode = mode_of(word_at(words, 35));
+    let mask = mask_of(word_at(words, 48), word_at(words, 49), word_at(words, 41));
     let job = job_of(
         word_at(words, 39),
         word_at(words, 40),
-        word_at(words, 41),
+        mask,
         word_at(words, 42),
     );
     let driven = state::with_drive(planned, mode, word_at(words, 36), job);
@@ -103,13 +113,61 @@ fn put_four(out: &mut [u16], at: usize, a: u16, b: u16, c: u16, d: u16) -> usize
     put(out, next, d)
 }
 
-// A job's four words, 0 for what it does not have.
+// A mask's kind, high word and low word; a plain one has no high word.
+struct MaskWords {
+    kind: u16,
+    high: u16,
+    low: u16,
+}
+
+fn mask_words(mask: Mask) -> MaskWords {
+    match mask {
+        Mask::Plain(word) => MaskWords {
+            kind: 0,
+            high: 0,
+            low: word,
+        },
+        Mask::Mixed(high, low) => MaskWords {
+            kind: 1,
+            high: high,
+            low: low,
+        },
+    }
+}
+
+// The mask of a job; of none a plain one of no bit.
+fn mask_in(job: Job) -> Mask {
+    match job {
+        Job::Absent => Mask::Plain(0),
+        Job::Counted {
+            left: _,
+            mask,
+            sent: _,
+        } => mask,
+        Job::Endless { mask, sent: _ } => mask,
+    }
+}
+
+// A job's four words, 0 for what it does not have; of its mask the low word.
 fn put_job(out: &mut [u16], at: usize, job: Job) -> usize {
     match job {
         Job::Absent => put_four(out, at, 0, 0, 0, 0),
-        Job::Counted { left, mask, sent } => put_four(out, at, 1, left, mask, sent),
-        Job::Endless { mask, sent } => put_four(out, at, 2, 0, mask, sent),
+        Job::Counted { left, mask, sent } => {
+            let words = mask_words(mask);
+            put_four(out, at, 1, left, words.low, sent)
+        }
+        Job::Endless { mask, sent } => {
+            let words = mask_words(mask);
+            put_four(out, at, 2, 0, words.low, sent)
+        }
     }
+}
+
+// The kind of a job's mask, and its high word.
+fn put_mask_kind(out: &mut [u16], at: usize, job: Job) -> usize {
+    let words = mask_words(mask_in(job));
+    let next = put(out, at, words.kind);
+    put(out, next, words.high)
 }
 
 // A pair's two words.
@@ -149,5 +207,6 @@ pub(crate) fn put_state(out: &mut [u16], at: usize, state: State) -> usize {
         state.counter,
     );
     next = put_job(out, next, job);
-    put_settings(out, next, settings)
+    next = put_settings(out, next, settings);
+    put_mask_kind(out, next, job)
 }
