@@ -99,6 +99,6 @@ pub extern "C" fn slackjib_mixed_profile(
         (scanWith (start .0) (now (distances .entry)) (now (echoes .entry)) (now (reflectors .entry))) (now (out .entry)) (now (out .exit)) r ⌝ }
 {
     let state = measuring(plan, step, running, Mask::Mixed(high, low));
-    let reply = profile::revolution(state, start, distances, echoes, reflectors, out);
-    reply.count
+    let mixed = profile::revolution(state, start, distances, echoes, reflectors, out);
+    mixed.count
 }

@@ -32,7 +32,7 @@ use Rattle.state.specs.Jobs.{maskOf, hasKind, isJob}
 use Rattle.state.specs.Ranges.{isMeasure, inRange}
 use Rattle.state.specs.Replies.{Unchanged}
 use Rattle.profile.specs.Points.{selected, pointWords}
-use Rattle.profile.specs.Profiles.{Scan, scan, pointsOf, sectorOf, arcsOf, rateOf, fieldsOf}
+use Rattle.profile.specs.Profiles.{Scan, scanWith, scan, pointsOf, sectorOf, arcsOf, rateOf, fieldsOf}
 use Rattle.profile.specs.Mixed.{reflectorsGiven, mixedOf}
 use Rattle.profile.specs.Revolutions.{revolved, listsFit, reflectorsFit, revolutionOf}
 
@@ -175,7 +175,7 @@ twoShots = scan 0 (1 ∷ 2 ∷ []) (3 ∷ 4 ∷ [])
 
 -- the same shots, each with the echo of the one behind it (rule 5.6)
 abbrev pub laterEchoes : Scan → Scan
-laterEchoes g = scan (g .start) (g .distances) (drop 1 (g .echoes))
+laterEchoes g = scanWith (g .start) (g .distances) (drop 1 (g .echoes)) (g .reflectors)
 
 -- no writer of blocks meets the contract of the writer of points (rule 5.6)
 abbrev pub NotAsBlocks : Type 0

@@ -5,4 +5,5 @@ pub mod Living
 pub mod Untouched
 pub mod ShutOut
 pub mod Refuted
+pub mod MixedRefuted
 pub mod Benched

@@ -6,4 +6,5 @@ pub mod Life
 pub mod Unsent
 pub mod StandIns
 pub mod WrongAnswers
+pub mod MixedSlips
 pub mod Figures

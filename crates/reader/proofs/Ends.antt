@@ -155,5 +155,5 @@ module _ (first mask count : ℕ) (ws : List ℕ) (long : first ≤ length ws) (
               high = refl;
               low = refl;
             };
-        cut = λ h. record { found = found-short first mask count ws long w h; part = e ∙ end-part };
+        cut = λ h. record { place = omega (arith, end-within); found = found-short first mask count ws long w h; part = e ∙ end-part };
       }

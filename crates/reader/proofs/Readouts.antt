@@ -1,14 +1,13 @@
 -- A whole reading: its head, and what its contour gives.
 use mathlib.Core.Path.{_≡_, sym, _∙_, ap}
 use mathlib.Core.List.{List}
-use Prim.Native.Nat.{ℕ, _≤_, _<_}
+use Prim.Native.Nat.{ℕ, _-_, _≤_, _<_}
 use native.Mathlib.Omega.{arith}
 use lib.ListN.{length, drop, drop-of-length-le}
 use lib.Seq.{drop-cons}
 use borrow.Author.Tests.{eq-eqb, ne-eqb}
 use Rattle.words.specs.declared.Word.the-variants.{Given}
 use Rattle.layout.specs.Layout.{headLength}
-use Rattle.reader.specs.declared.Part.{Part}
 use Rattle.reader.specs.declared.Place.the-variants.{Nowhere, At}
 use Rattle.reader.specs.declared.ContourFound.{ContourFound}
 use Rattle.reader.specs.declared.Reading.{Reading}
@@ -27,11 +26,12 @@ module _ (ws : List ℕ) (n : ℕ) (head : n ≡ headRefusal ws) (r : Reading) w
 
 -- the ways out behind the head, by the place behind the contour
 module _ (ws : List ℕ) (f : ContourFound) (is : ContourRead ws headLength (maskIn ws) (countIn ws) f) where
-  pub body-cut : {r : Reading} → r ≡ refusedReading 15 (At (length ws) (f .part)) → length ws < f .at → r ≡ bodyOf ws
+  pub body-cut : {r : Reading} → r ≡ refusedReading 15 (At (f .at - 1) (f .part)) → length ws < f .at → r ≡ bodyOf ws
   unfolding bodyOf partMissing partFrom
   body-cut e h =
       let cut = is .cut h in
-      e ∙ ap (λ (p : Part). refusedReading 15 (At (length ws) p)) (cut .part) ∙ sym (ap (ended (maskIn ws) (countIn ws) (endOf ws)) (cut .found))
+      let index : f .at - 1 ≡ length ws = omega (arith, cut .place) in
+      e ∙ (λ j. refusedReading 15 (At (index j) (cut .part j))) ∙ sym (ap (ended (maskIn ws) (countIn ws) (endOf ws)) (cut .found))
 
   pub body-over : {r : Reading} → r ≡ refusedReading 16 Nowhere → f .at < length ws → r ≡ bodyOf ws
   unfolding bodyOf

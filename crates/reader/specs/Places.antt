@@ -81,8 +81,9 @@ pub record ContourWhole (ws : List ℕ) (first mask sectors : ℕ) (r : ContourF
   pub high : r .high ≡ value .1 .1 .1 .1 .0
   pub low : r .low ≡ value .1 .1 .1 .1 .1 .0
 
--- a contour at which the words end early, and the part
+-- a contour at which the words end early: the place is one past their end; and the part
 pub record ContourCut (ws : List ℕ) (first mask sectors : ℕ) (r : ContourFound) : Type 0 where
+  pub place : r .at ≡ length ws + 1
   pub found : body mask sectors .parse first (drop first ws) ≡ short
   pub part : r .part ≡ partFrom first mask sectors ws
 

@@ -39,7 +39,8 @@ fn read_body(words: &[u16]) -> Reading
     let contour = read_contour(words, HEAD, mask, count);
     if words.len() < contour.at {
         let part = contour.part;
-        return refused(15, Place::At(words.len(), part));
+        // past the end, the place reached is just behind the first missing word
+        return refused(15, Place::At(contour.at - 1, part));
     }
     if contour.at < words.len() {
         return refused(16, Place::Nowhere);

@@ -5,17 +5,18 @@ mod body;
 mod contour;
 mod head;
 mod mixed;
+mod mixed_stretches;
 mod reflectors;
 mod sector;
 mod stretches;
 
 pub use body::read;
 pub use mixed::read_mixed;
+pub use mixed_stretches::stretch_mixed;
+pub use mixed_stretches::stretch_mixed_refusal;
 pub use reflectors::all_reflectors;
 pub use reflectors::reflector;
 pub use reflectors::reflector_refusal;
-pub use reflectors::stretch_mixed;
-pub use reflectors::stretch_mixed_refusal;
 pub use stretches::stretch;
 pub use stretches::stretch_refusal;
 

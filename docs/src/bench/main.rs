@@ -1,4 +1,6 @@
-//! Compares the proved writer with the two of `writer.rs`, word by word, and then times all three, beside a plain copy of the same words.
+//! Compares the proved writer with the two of `writer.rs`, word by word, and then times all three, beside a plain copy of the same words;
+//! then the same of mixed profiles, with the one writer of `mixed.rs`.
+mod mixed;
 mod writer;
 
 use std::hint::black_box;
@@ -28,6 +30,24 @@ extern "C" {
         out: *mut u16,
         out_length: usize,
     ) -> usize;
+
+    fn slackjib_mixed_profile(
+        plan: *const u16,
+        plan_length: usize,
+        step: Angle,
+        running: u16,
+        high: u16,
+        low: u16,
+        start: Time,
+        distances: *const u16,
+        distances_length: usize,
+        echoes: *const u16,
+        echoes_length: usize,
+        reflectors: *const u16,
+        reflectors_length: usize,
+        out: *mut u16,
+        out_length: usize,
+    ) -> usize;
 }
 
 // The proved function asks nothing of its caller but that the slices are slices.
@@ -45,6 +65,40 @@ fn proved(plan: &[u16], step: u16, running: u16, mask: u16, start: u16, distance
             distances.len(),
             echoes.as_ptr(),
             echoes.len(),
+            out.as_mut_ptr(),
+            out.len(),
+        )
+    }
+}
+
+#[inline(never)]
+fn proved_mixed(
+    plan: &[u16],
+    step: u16,
+    running: u16,
+    high: u16,
+    low: u16,
+    start: u16,
+    distances: &[u16],
+    echoes: &[u16],
+    reflectors: &[u16],
+    out: &mut [u16],
+) -> usize {
+    unsafe {
+        slackjib_mixed_profile(
+            plan.as_ptr(),
+            plan.len(),
+            Angle(step),
+            running,
+            high,
+            low,
+            Time(start),
+            distances.as_ptr(),
+            distances.len(),
+            echoes.as_ptr(),
+            echoes.len(),
+            reflectors.as_ptr(),
+            reflectors.len(),
             out.as_mut_ptr(),
             out.len(),
         )
@@ -77,8 +131,9 @@ impl Numbers {
 
 const STEPS: [u16; 23] = [1, 2, 3, 4, 5, 6, 8, 9, 10, 12, 15, 16, 18, 20, 24, 30, 32, 36, 40, 45, 48, 60, 64];
 
-// More than the longest profile has.
+// More than the longest profile has, of either kind.
 const ROOM: usize = 6600;
+const MIXED_ROOM: usize = 7300;
 
 // What the writers are given.
 struct Input {
@@ -248,6 +303,116 @@ fn measure(case: &Case, rounds: usize, calls: u32) {
     println!(" {:.2} |", medians[2] / medians[0].min(medians[1]));
 }
 
+// What the writers of mixed profiles are given beside that; the mask of the input is the low word.
+struct MixedInput {
+    contour: Input,
+    high: u16,
+    reflectors: Vec<u16>,
+}
+
+type MixedWriter = fn(&[u16], u16, u16, u16, u16, u16, &[u16], &[u16], &[u16], &mut [u16]) -> usize;
+
+fn write_mixed(writer: MixedWriter, input: &MixedInput, out: &mut [u16]) -> usize {
+    let given = &input.contour;
+    writer(
+        &given.plan,
+        given.step,
+        given.running,
+        input.high,
+        given.mask,
+        given.start,
+        &given.distances,
+        &given.echoes,
+        &input.reflectors,
+        out,
+    )
+}
+
+fn agree_mixed(input: &MixedInput, before: &[u16], room: usize) -> usize {
+    let mut out = before.to_vec();
+    let mut other = before.to_vec();
+    let count = write_mixed(proved_mixed, input, &mut out[..room]);
+    assert_eq!(count, write_mixed(mixed::mixed, input, &mut other[..room]), "the counts differ");
+    assert!(out == other, "the words differ");
+    count
+}
+
+// As for plain profiles; of sixteen inputs two have a high word that may be no mask's, one a list that may not fit, and one no reflectors.
+fn compare_mixed(inputs: usize) {
+    let mut numbers = Numbers { state: 3 };
+    let mut accepted = 0;
+    for _ in 0..inputs {
+        let mut contour = some_input(&mut numbers);
+        damage(&mut numbers, &mut contour);
+        let fields = numbers.below(32) as u16;
+        let mut input = MixedInput { contour, high: fields << 2 | 1, reflectors: Vec::new() };
+        let many = numbers.below(65) as usize;
+        input.reflectors = numbers.words(11 * many);
+        match numbers.below(16) {
+            0 => input.high = numbers.next() as u16,
+            1 => input.high = numbers.below(256) as u16,
+            2 => {
+                let length = 700 + numbers.below(20) as usize;
+                input.reflectors = numbers.words(length);
+            }
+            3 => input.high = 0,
+            _ => {}
+        }
+        let before = numbers.words(MIXED_ROOM);
+        let count = agree_mixed(&input, &before, MIXED_ROOM);
+        if count > 0 {
+            accepted += 1;
+            assert_eq!(agree_mixed(&input, &before, count), count);
+            assert_eq!(agree_mixed(&input, &before, count - 1), 0);
+        }
+    }
+    println!("{inputs} inputs of mixed profiles, {accepted} of them accepted: the same counts and the same words");
+}
+
+// The plain profile's time stands beside it: the same plan, lists and low word by `slackjib_profile`.
+fn time_mixed(which: usize, input: &MixedInput, words: &[u16], out: &mut [u16], calls: u32) -> f64 {
+    let writers: [MixedWriter; 2] = [mixed::mixed, proved_mixed];
+    let begin = Instant::now();
+    for _ in 0..calls {
+        if which < 2 {
+            black_box(write_mixed(writers[which], black_box(input), black_box(&mut *out)));
+        } else if which == 2 {
+            black_box(write(proved, black_box(&input.contour), black_box(&mut *out)));
+        } else {
+            copy(black_box(words), black_box(&mut *out));
+        }
+    }
+    begin.elapsed().as_nanos() as f64 / calls as f64
+}
+
+fn measure_mixed(case: Case, high: u16, many: usize, rounds: usize, calls: u32) {
+    let mut numbers = Numbers { state: 4 };
+    let name = case.name;
+    let input = MixedInput { contour: case.input, high, reflectors: numbers.words(11 * many) };
+    let mut out = vec![0; MIXED_ROOM];
+    let count = agree_mixed(&input, &out, MIXED_ROOM);
+    assert!(count > 0, "{name} is refused");
+    write_mixed(proved_mixed, &input, &mut out);
+    let words = out[..count].to_vec();
+    let mut times = [Vec::new(), Vec::new(), Vec::new(), Vec::new()];
+    for which in 0..4 {
+        time_mixed(which, &input, &words, &mut out, calls);
+    }
+    for round in 0..rounds {
+        for turn in 0..4 {
+            let which = (round + turn) % 4;
+            times[which].push(time_mixed(which, &input, &words, &mut out, calls));
+        }
+    }
+    print!("| {name} | {high:04X} {:04X} | {many} | {count} |", input.contour.mask);
+    let mut medians = Vec::new();
+    for list in &mut times {
+        medians.push(median(list));
+        print!(" {:.0} | {:.0} |", medians[medians.len() - 1], list[0]);
+    }
+    println!(" {:.2} |", medians[1] / medians[0]);
+}
+
 fn main() {
     compare(6000);
     let (rounds, calls) = (32, 2000);
@@ -266,5 +431,13 @@ fn main() {
     ];
     for case in &cases {
         measure(case, rounds, calls);
+    }
+    compare_mixed(6000);
+    println!("mixed profiles, the same rounds; the plain one beside them is of the same plan and low word:");
+    println!("| Plan | Mask | Reflectors | Words | Rust by remainder | least | Rattle | least | Rattle, plain | least | copy | least | Ratio |");
+    println!("|---|---|---|---|---|---|---|---|---|---|---|---|---|");
+    for (high, many) in [(0x0000, 0), (0x0001, 64), (0x007D, 2), (0x007D, 64)] {
+        measure_mixed(case("one sector, step 8, 10 Hz", 1, 5752, 8, 10), high, many, rounds, calls);
+        measure_mixed(case("eight sectors, step 8, 10 Hz", 8, 5752, 8, 10), high, many, rounds, calls);
     }
 }

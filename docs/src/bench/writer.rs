@@ -7,12 +7,12 @@ struct Sector {
     stop: u16,
 }
 
-struct Plan {
+pub struct Plan {
     sectors: [Sector; 8],
 }
 
 // What one active sector is in a revolution.
-struct Arc {
+pub struct Arc {
     function: u16,
     first: u16,
     last: u16,
@@ -28,7 +28,7 @@ fn word_at(words: &[u16], place: usize) -> u16 {
     0
 }
 
-fn plan_of(words: &[u16]) -> Plan {
+pub fn plan_of(words: &[u16]) -> Plan {
     let mut sectors = [Sector { function: 0, stop: 0 }; 8];
     for k in 0..8 {
         sectors[k] = Sector {
@@ -39,11 +39,11 @@ fn plan_of(words: &[u16]) -> Plan {
     Plan { sectors }
 }
 
-fn revolution_shots(step: u16) -> u16 {
+pub fn revolution_shots(step: u16) -> u16 {
     5760 / step
 }
 
-fn active_count(plan: &Plan) -> usize {
+pub fn active_count(plan: &Plan) -> usize {
     for k in 0..8 {
         if plan.sectors[k].function == 0 {
             return k;
@@ -70,7 +70,7 @@ fn shots_after(before: u16, stop: u16, step: u16) -> u16 {
 }
 
 // The arc of the active sector at a place.
-fn arc_at(plan: &Plan, step: u16, place: usize) -> Arc {
+pub fn arc_at(plan: &Plan, step: u16, place: usize) -> Arc {
     let mut before = last_stop(plan);
     let mut shot = 0;
     for i in 0..place {
@@ -149,11 +149,15 @@ fn mask_ok(mask: u16) -> bool {
     mask != 0 && mask < 0x4000
 }
 
-fn in_range(plan: &Plan, step: u16, running: u16, mask: u16) -> bool {
-    is_step(step) && plan_in_range(plan) && running >= 5 && running <= 20 && may_measure(plan, step, running) && mask_ok(mask)
+pub fn in_range_but_mask(plan: &Plan, step: u16, running: u16) -> bool {
+    is_step(step) && plan_in_range(plan) && running >= 5 && running <= 20 && may_measure(plan, step, running)
 }
 
-fn is_set(mask: u16, bit: u16) -> bool {
+fn in_range(plan: &Plan, step: u16, running: u16, mask: u16) -> bool {
+    in_range_but_mask(plan, step, running) && mask_ok(mask)
+}
+
+pub fn is_set(mask: u16, bit: u16) -> bool {
     mask >> bit & 1 == 1
 }
 
@@ -167,7 +171,7 @@ fn bits_set(mask: u16, from: u16, to: u16) -> usize {
     sum
 }
 
-fn plan_points(plan: &Plan, step: u16) -> u16 {
+pub fn plan_points(plan: &Plan, step: u16) -> u16 {
     let mut sum = 0;
     for k in 0..active_count(plan) {
         sum += arc_at(plan, step, k).points;
@@ -175,13 +179,13 @@ fn plan_points(plan: &Plan, step: u16) -> u16 {
     sum
 }
 
-fn profile_length(mask: u16, sectors: usize, points: usize) -> usize {
+pub fn profile_length(mask: u16, sectors: usize, points: usize) -> usize {
     let blocks = sectors * (bits_set(mask, 3, 7) + bits_set(mask, 11, 12));
     3 + bits_set(mask, 0, 2) + blocks + points * bits_set(mask, 8, 10) + 2 * bits_set(mask, 13, 13)
 }
 
 // The word at a place, if it is selected; the place behind it.
-fn put_if(out: &mut [u16], at: usize, on: bool, word: u16) -> usize {
+pub fn put_if(out: &mut [u16], at: usize, on: bool, word: u16) -> usize {
     if on {
         out[at] = word;
         return at + 1;
@@ -233,7 +237,7 @@ fn write_points<const ADDING: bool>(out: &mut [u16], distances: &[u16], echoes: 
     }
 }
 
-fn write_sector<const ADDING: bool>(
+pub fn write_sector<const ADDING: bool>(
     out: &mut [u16],
     distances: &[u16],
     echoes: &[u16],

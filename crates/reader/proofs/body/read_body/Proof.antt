@@ -16,6 +16,7 @@ read-body-spec =
     (λ c. search (needs, head-has Kind.Plain))
     (λ c. search needs)
     (λ c κs. (search (head-long Kind.Plain), search (head-some Kind.Plain), search (head-few Kind.Plain)))
+    (λ c. search needs)
     (λ c κs. search needs)
     (λ c. search body-cut)
     (λ c κs. search needs)

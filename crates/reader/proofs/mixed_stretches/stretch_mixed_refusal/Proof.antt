@@ -1,8 +1,8 @@
 -- `stretch_mixed_refusal`: each way out by its law.
 use borrow.Author.Needs.{needs}
 use Rattle.reader.proofs.MixedPoints.{mixed-refused, mixed-has-stretch, mixed-past-sectors}
-use Rattle.reader.proofs.reflectors.stretch_mixed_refusal.Statement.{statement}
-use Rattle.reader.proofs.reflectors.stretch_mixed_refusal.Tie as tie
+use Rattle.reader.proofs.mixed_stretches.stretch_mixed_refusal.Statement.{statement}
+use Rattle.reader.proofs.mixed_stretches.stretch_mixed_refusal.Tie as tie
 
 pub stretch-mixed-refusal-spec : {M : Type 1} → statement M
 stretch-mixed-refusal-spec =

@@ -3,8 +3,8 @@ use mathlib.Core.Path.{refl}
 use native.Mathlib.Omega.{arith}
 use borrow.Author.Needs.{needs}
 use Rattle.reader.proofs.MixedPoints.{mixed-below-eight, mixed-ends, mixed-points-lent, mixed-nothing-lent}
-use Rattle.reader.proofs.reflectors.stretch_mixed.Statement.{statement}
-use Rattle.reader.proofs.reflectors.stretch_mixed.Tie as tie
+use Rattle.reader.proofs.mixed_stretches.stretch_mixed.Statement.{statement}
+use Rattle.reader.proofs.mixed_stretches.stretch_mixed.Tie as tie
 
 pub stretch-mixed-spec : {M : Type 1} → statement M
 stretch-mixed-spec =
