@@ -1,4 +1,5 @@
 -- `read_body`: what the contour gives, by each way out.
+use native.Mathlib.Omega.{arith}
 use mir.Facts.{fits-widen}
 use borrow.Author.Needs.{needs}
 use Rattle.layout.specs.declared.Kind.{Kind}
@@ -16,7 +17,7 @@ read-body-spec =
     (λ c. search (needs, head-has Kind.Plain))
     (λ c. search needs)
     (λ c κs. (search (head-long Kind.Plain), search (head-some Kind.Plain), search (head-few Kind.Plain)))
-    (λ c. search needs)
+    (λ c. omega (arith, head-long Kind.Plain _ (c .before .before .before .before .before .before .before .pre)))
     (λ c κs. search needs)
     (λ c. search body-cut)
     (λ c κs. search needs)
