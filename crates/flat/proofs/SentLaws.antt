@@ -1,4 +1,4 @@
--- The way out of `slackjib_profile`, over what its callees ensure.
+-- The way out of `one_profile`, over what its callees ensure.
 use mathlib.Core.Path.{_≡_}
 use mathlib.Core.List.{List}
 use Prim.Native.Nat.{ℕ}

@@ -15,12 +15,15 @@ pub record Sent (count : ℕ) (before after : List ℕ) (x : Result) : Type 0 wh
   pub counted : count ≡ x .reply .count
   pub buffer : after ≡ over (x .written) before
 
--- the contract of `slackjib_profile`: a revolution of a sensor that measures with the plan of these words (rule 5.9)
+-- a revolution of a sensor that measures with the plan of these words, by a mask of either kind (rules 5.9 and 5.21)
+abbrev pub SentBy : List ℕ → ℕ → ℕ → Mask → Scan → List ℕ → List ℕ → ℕ → Type 0
+SentBy plan step running mask g before after count =
+    Sent count before after (revolutionOf (measuring (planOf plan) step running mask) g (length before))
+
+-- the contract of `slackjib_profile` (rule 5.9)
 abbrev pub ProfileSays : List ℕ → ℕ → ℕ → ℕ → Scan → List ℕ → List ℕ → ℕ → Type 0
-ProfileSays plan step running mask g before after count =
-    Sent count before after (revolutionOf (measuring (planOf plan) step running (Mask.Plain mask)) g (length before))
+ProfileSays plan step running mask g before after count = SentBy plan step running (Mask.Plain mask) g before after count
 
 -- the contract of `slackjib_mixed_profile`: the same with the two words of a mixed mask (rule 5.21)
 abbrev pub MixedSays : List ℕ → ℕ → ℕ → ℕ → ℕ → Scan → List ℕ → List ℕ → ℕ → Type 0
-MixedSays plan step running high low g before after count =
-    Sent count before after (revolutionOf (measuring (planOf plan) step running (Mask.Mixed high low)) g (length before))
+MixedSays plan step running high low g before after count = SentBy plan step running (Mask.Mixed high low) g before after count

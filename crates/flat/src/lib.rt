@@ -1,9 +1,11 @@
 // The writer of profiles for programs in C or Rust, which have no state with enums to hand over.
 ghost use mathlib.Core.Path.{_≡_};
+ghost use Rattle.layout.specs.MixedMasks.{maskFrom};
 ghost use Rattle.state.specs.Fresh.{measuring as Fresh·measuring};
 ghost use Rattle.profile.specs.Profiles.{scanWith, scan};
 ghost use Rattle.flat.specs.Plans.{entryOf, planOf};
-ghost use Rattle.flat.specs.Sent.{ProfileSays, MixedSays};
+ghost use Rattle.flat.specs.Sent.{SentBy, ProfileSays, MixedSays};
+use layout::Kind;
 use layout::Mask;
 use plan::Plan;
 use plan::Sector;
@@ -59,6 +61,31 @@ fn measuring(plan: &[u16], step: Angle, running: u16, mask: Mask) -> State
     state::with_drive(planned, Mode::Measure, running, job)
 }
 
+// The profile of that sensor's revolution by a mask of either kind, into the buffer that is lent; how many words it has, 0 where the call is
+// refused. One call of `revolution` serves both kinds, so that the compiler puts it here and hands no state over in memory; and the mask comes
+// as numbers, which go in registers.
+fn one_profile(
+    plan: &[u16],
+    step: Angle,
+    running: u16,
+    kind: Kind,
+    high: u16,
+    low: u16,
+    start: Time,
+    distances: &[u16],
+    echoes: &[u16],
+    reflectors: &[u16],
+    out: &mut [u16],
+) -> usize
+    ensures { λ r. ⌜ SentBy (now (plan .entry)) (step .0) running (maskFrom kind high low)
+        (scanWith (start .0) (now (distances .entry)) (now (echoes .entry)) (now (reflectors .entry))) (now (out .entry)) (now (out .exit)) r ⌝ }
+{
+    let mask = layout::mask_from(kind, high, low);
+    let state = measuring(plan, step, running, mask);
+    let reply = profile::revolution(state, start, distances, echoes, reflectors, out);
+    reply.count
+}
+
 // The profile of one revolution into the buffer that is lent; how many words it has, 0 where the call is refused (rule 5.9).
 #[no_mangle]
 pub extern "C" fn slackjib_profile(
@@ -74,22 +101,33 @@ pub extern "C" fn slackjib_profile(
     ensures { λ r. ⌜ ProfileSays (now (plan .entry)) (step .0) running mask (scan (start .0) (now (distances .entry)) (now (echoes .entry)))
         (now (out .entry)) (now (out .exit)) r ⌝ }
 {
-    let state = measuring(plan, step, running, Mask::Plain(mask));
     let none = &distances[0..0];
-    let reply = profile::revolution(state, start, distances, echoes, none, out);
-    reply.count
+    one_profile(
+        plan,
+        step,
+        running,
+        Kind::Plain,
+        0,
+        mask,
+        start,
+        distances,
+        echoes,
+        none,
+        out,
+    )
 }
 
 // The mixed profile of one revolution with these reflectors, eleven words each, into the buffer that is lent; how many words it has, 0
-// where the call is refused (rule 5.21).
+// where the call is refused (rule 5.21). The start time stands in front of the mask: so both structs of one number are among the first six
+// arguments, which go in registers on every processor.
 #[no_mangle]
 pub extern "C" fn slackjib_mixed_profile(
     plan: &[u16],
     step: Angle,
     running: u16,
+    start: Time,
     high: u16,
     low: u16,
-    start: Time,
     distances: &[u16],
     echoes: &[u16],
     reflectors: &[u16],
@@ -98,7 +136,17 @@ pub extern "C" fn slackjib_mixed_profile(
     ensures { λ r. ⌜ MixedSays (now (plan .entry)) (step .0) running high low
         (scanWith (start .0) (now (distances .entry)) (now (echoes .entry)) (now (reflectors .entry))) (now (out .entry)) (now (out .exit)) r ⌝ }
 {
-    let state = measuring(plan, step, running, Mask::Mixed(high, low));
-    let mixed = profile::revolution(state, start, distances, echoes, reflectors, out);
-    mixed.count
+    one_profile(
+        plan,
+        step,
+        running,
+        Kind::Mixed,
+        high,
+        low,
+        start,
+        distances,
+        echoes,
+        reflectors,
+        out,
+    )
 }

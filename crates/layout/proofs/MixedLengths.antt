@@ -14,8 +14,9 @@ use Rattle.layout.specs.Bits as bits
 use Rattle.layout.specs.Masks.{pointWidth}
 use Rattle.layout.specs.Layout.{head, contour, layout}
 use Rattle.layout.specs.Lengths.{profileLength}
-use Rattle.layout.specs.MixedMasks.{reflectorWidth, mostReflectors}
-use Rattle.layout.specs.Mixed.{mixedLength, reflectorPart, MixedLayoutLength, GreatestMixed}
+use Rattle.layout.specs.declared.Mask.{Mask}
+use Rattle.layout.specs.MixedMasks.{mixedNumber, reflectorWidth, mostReflectors}
+use Rattle.layout.specs.Mixed.{mixedLength, lengthOf, reflectorPart, MixedLayoutLength, GreatestMixed}
 use Rattle.layout.proofs.LayoutLengths.{word-length, layout-length}
 use Rattle.layout.proofs.GreatestLength.{count-most, two-most, greatest}
 
@@ -73,3 +74,11 @@ pub mixed-is : (m s p n l w f a : ℕ) → l ≡ profileLength m s p → w ≡ r
     → l + 1 + a + f ≡ mixedLength m s p n
 unfolding mixedLength
 mixed-is m s p n l w f a el ew ef ea = rw (el, ea, ef, ew) (omega arith)
+
+-- `length_of`
+module _ (mask : Mask) (s p k r : ℕ) where
+  pub plain-length : (word : ℕ) → mask ≡ Mask.Plain word → r ≡ profileLength word s p → r ≡ lengthOf mask s p k
+  plain-length word e h = rw e h
+
+  pub mixed-length : (high low n : ℕ) → mask ≡ Mask.Mixed high low → n ≡ mixedNumber high low → r ≡ mixedLength n s p k → r ≡ lengthOf mask s p k
+  mixed-length high low n e en h = rw (e, ← en) h

@@ -13,7 +13,7 @@ use Rattle.words.proofs.Tests.{said-no, said-yes}
 use Rattle.layout.specs.Masks.{maskOk}
 use Rattle.layout.specs.declared.Kind.{Kind}
 use Rattle.layout.specs.declared.Mask.{Mask}
-use Rattle.layout.specs.MixedMasks.{mixedNumber, noneOf, mixedOk, kindOk, admitted}
+use Rattle.layout.specs.MixedMasks.{mixedNumber, noneOf, mixedOk, maskFrom, maskNumber, kindOk, admitted}
 
 -- n bits from k on
 abbrev run : ℕ → ℕ → List ℕ
@@ -97,3 +97,11 @@ module _ (mask : Mask) (r : Bool) where
 
   pub mixed-admitted : (high low n : ℕ) → mask ≡ Mask.Mixed high low → n ≡ mixedNumber high low → r ≡ mixedOk n → r ≡ admitted mask
   mixed-admitted high low n e en h = rw (e, ← en) h
+
+-- `mask_number`
+pub mixed-numbered : (mask : Mask) (n high low : ℕ) → mask ≡ Mask.Mixed high low → n ≡ mixedNumber high low → n ≡ maskNumber mask
+mixed-numbered mask n high low e h = rw e h
+
+-- `mask_from`
+pub from-kind : (kind k : Kind) (high low : ℕ) → kind ≡ k → maskFrom k high low ≡ maskFrom kind high low
+from-kind kind k high low e = rw e

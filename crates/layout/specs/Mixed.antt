@@ -11,6 +11,7 @@ use Rattle.words.specs.declared.Word.{Word}
 use Rattle.words.specs.Words.{wordsOf, numberOf, Shaped}
 use Rattle.layout.specs.Bits as bits
 use Rattle.layout.specs.declared.Kind.{Kind}
+use Rattle.layout.specs.declared.Mask.{Mask}
 use Rattle.layout.specs.MixedMasks.{mixedNumber, mixedOk, reflectorWidth, mostReflectors}
 use Rattle.layout.specs.Fields.{Fields}
 use Rattle.layout.specs.Layout.{profileCode, oneLayer, headLength, contour, Fits, Acceptable}
@@ -72,6 +73,11 @@ pub record MixedAcceptable (f : MixedFields) : Type 0 where
 unfoldable pub mixedLength : ℕ → ℕ → ℕ → ℕ → ℕ
 mixedLength mask sectors points reflectors =
     profileLength mask sectors points + 1 + count (bit mask) (bits.reflectors ∷ []) + reflectors * reflectorWidth mask
+
+-- of a mask of either kind (rules 5.8 and 5.20)
+abbrev pub lengthOf : Mask → ℕ → ℕ → ℕ → ℕ
+lengthOf (Mask.Plain word) sectors points reflectors = profileLength word sectors points
+lengthOf (Mask.Mixed high low) sectors points reflectors = mixedLength (mixedNumber high low) sectors points reflectors
 
 -- the layout of fields that fit their mask is as long as the formula says (rule 5.20)
 abbrev pub MixedLayoutLength : Type 0

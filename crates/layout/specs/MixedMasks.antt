@@ -38,6 +38,11 @@ abbrev pub kindOf : Mask → Kind
 kindOf (Mask.Plain word) = Kind.Plain
 kindOf (Mask.Mixed high low) = Kind.Mixed
 
+-- the mask of a kind, from two words; a plain one has the low word alone (rules 2.7 and 2.11)
+abbrev pub maskFrom : Kind → ℕ → ℕ → Mask
+maskFrom Kind.Plain high low = Mask.Plain low
+maskFrom Kind.Mixed high low = Mask.Mixed high low
+
 -- the mask is of the kind (rules 4.11 and 4.24)
 abbrev pub isOf : Kind → Mask → Bool
 isOf Kind.Plain (Mask.Plain word) = true

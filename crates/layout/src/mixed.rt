@@ -1,9 +1,12 @@
 // What concerns the mask and the length of a mixed profile.
 ghost use mathlib.Core.Path.{_≡_};
-ghost use Rattle.layout.specs.MixedMasks.{mixedNumber, mixedOk, reflectorWidth, isOf, kindOk, admitted as MixedMasks·admitted};
-ghost use Rattle.layout.specs.Mixed.{mixedLength};
+ghost use Rattle.layout.specs.MixedMasks.{mixedNumber, mixedOk, reflectorWidth, kindOf, maskFrom, isOf, maskNumber, kindOk};
+ghost use Rattle.layout.specs.MixedMasks.{admitted as MixedMasks·admitted};
+ghost use Rattle.layout.specs.Mixed.{kindNumbers, mixedLength, lengthOf};
 use crate::Kind;
+use crate::MIXED_LAYER;
 use crate::Mask;
+use crate::PLAIN_LAYER;
 use crate::bits;
 use crate::lengths::profile_length;
 use crate::masks::mask_ok;
@@ -69,6 +72,36 @@ pub fn is_of(kind: Kind, mask: Mask) -> bool
     }
 }
 
+// The mask of a kind, from two words; a plain one has the low word alone (rules 2.7 and 2.11).
+pub fn mask_from(kind: Kind, high: u16, low: u16) -> Mask
+    ensures { λ r. ⌜ r ≡ maskFrom kind high low ⌝ }
+{
+    match kind {
+        Kind::Plain => Mask::Plain(low),
+        Kind::Mixed => Mask::Mixed(high, low),
+    }
+}
+
+// A mask's number (rules 2.7 and 2.11).
+pub fn mask_number(mask: Mask) -> u32
+    ensures { λ r. ⌜ r ≡ maskNumber mask ⌝ }
+{
+    match mask {
+        Mask::Plain(word) => word as u32,
+        Mask::Mixed(high, low) => mixed_number(high, low),
+    }
+}
+
+// The layer that a profile of a mask's kind names (rules 5.5 and 5.19).
+pub fn layer_of(mask: Mask) -> u16
+    ensures { λ r. ⌜ r ≡ kindNumbers (kindOf mask) .layer ⌝ }
+{
+    match mask {
+        Mask::Plain(_) => PLAIN_LAYER,
+        Mask::Mixed(_, _) => MIXED_LAYER,
+    }
+}
+
 // The words of one reflector (rule 5.20).
 pub fn reflector_width(mask: u32) -> u16
     ensures { λ r. ⌜ r ≡ reflectorWidth mask ⌝ }
@@ -84,4 +117,19 @@ pub fn mixed_length(mask: u32, sectors: u16, points: u16, reflectors: u16) -> us
     let contour = profile_length(mask, sectors, points);
     let fields = words::product(reflectors, reflector_width(mask)) as usize;
     contour + 1 + one_if(mask, bits::REFLECTORS) as usize + fields
+}
+
+// The words of a profile of a mask's kind (rules 5.8 and 5.20).
+pub fn length_of(mask: Mask, sectors: u16, points: u16, reflectors: u16) -> usize
+    ensures { λ r. ⌜ r ≡ lengthOf mask sectors points reflectors ⌝ }
+{
+    match mask {
+        Mask::Plain(word) => profile_length(word as u32, sectors, points),
+        Mask::Mixed(high, low) => mixed_length(
+            mixed_number(high, low),
+            sectors,
+            points,
+            reflectors,
+        ),
+    }
 }

@@ -16,6 +16,6 @@ pub mod Writing
 pub mod SectorTurns
 pub mod WholeProfile
 pub mod Reflecting
-pub mod MixedProfile
+pub mod ByMask
 pub mod Turning
 pub mod Sending

@@ -1,4 +1,4 @@
--- The points of a plan's arcs: no more than their shots, the loop of `plan_points` that adds them, and `plan_length`.
+-- The points of a plan's arcs: no more than their shots, the loop of `plan_points` that adds them, and how many arcs there are.
 use mathlib.Core.Path.{_≡_, _∙_}
 use mathlib.Core.Bool.{Bool, true, false}
 use mathlib.Core.List.{List, [], _∷_}
@@ -17,8 +17,6 @@ use Rattle.plan.specs.declared.Arc.{Arc}
 use Rattle.plan.specs.Sectors.{stopOf, active, activeOf}
 use Rattle.plan.specs.Shots.{lastStop, shotsOf, arcsFrom, arcs, noArc, arcAt}
 use Rattle.plan.proofs.ArcSums.{arcs-length, arc-few, count-fits}
-use Rattle.layout.specs.Lengths.{profileLength}
-use Rattle.layout.specs.Mixed.{mixedLength}
 
 pub if-most : (b : Bool) (n : ℕ) → (if b then n else 0) ≤ n
 if-most true n = omega arith
@@ -58,13 +56,6 @@ module _ (p : Plan) (step k sum : ℕ) where
     pub points-fit : n ≤ 8 → sum ≤ k * circle → sum + a .points < 65536
     points-fit l i = omega (arith, points-bound i)
 
--- `plan_length`
+-- how many sectors are active is a word
 pub count-word : (l : List Sector) (n : ℕ) → length l ≡ 8 → n ≡ length (active l) → n < 65536
 count-word l n len e = omega (arith, count-fits l n len e)
-
-pub plan-long : (mask a b n p r : ℕ) → n ≡ a → p ≡ b → r ≡ profileLength mask n p → r ≡ profileLength mask a b
-plan-long mask a b n p r en ep er = er ∙ rw (en, ep)
-
--- `plan_mixed_length`
-pub plan-mixed-long : (mask a b k n p r : ℕ) → n ≡ a → p ≡ b → r ≡ mixedLength mask n p k → r ≡ mixedLength mask a b k
-plan-mixed-long mask a b k n p r en ep er = er ∙ rw (en, ep)

@@ -12,7 +12,7 @@ use Rattle.words.specs.Choice.{if_then_else_}
 use Rattle.words.specs.Lists.{Each, none, this, total}
 use Rattle.words.specs.Buffers.{Wrote}
 use Rattle.words.proofs.Overs.{over-none}
-use Rattle.words.proofs.Tests.{and-l, and-r}
+use Rattle.words.proofs.Tests.{and-l, and-r, said-no, said-yes}
 use Rattle.units.specs.Directions.{circle, revolutionShots}
 use Rattle.layout.specs.declared.Mask.{Mask}
 use Rattle.layout.specs.MixedMasks.{mixedNumber}
@@ -26,6 +26,7 @@ use Rattle.state.specs.declared.Mode.{Mode}
 use Rattle.state.specs.declared.Job.{Job}
 use Rattle.state.specs.declared.Job.the-variants.{Absent, Counted, Endless}
 use Rattle.state.specs.declared.Reply.{Reply}
+use Rattle.state.specs.Jobs.{maskOf, isJob}
 use Rattle.state.specs.Ranges.{isMeasure, jobOk, inRange}
 use Rattle.state.specs.Replies.{delivered, Answered}
 use Rattle.state.proofs.Parts.{parts}
@@ -33,7 +34,7 @@ use Rattle.state.proofs.Measuring.{measures}
 use Rattle.state.proofs.Delivery.{reply, is-refused, no-room, has-room}
 use Rattle.profile.specs.Profiles.{Scan, scanWith, arcsOf}
 use Rattle.profile.specs.Mixed.{reflectorsGiven}
-use Rattle.profile.specs.Revolutions.{risen, turned, profileBy, profileOf, revolved, listsFit, reflectorsFit, revolutionRefusal, revolutionOf}
+use Rattle.profile.specs.Revolutions.{risen, sentAfter, turned, profileBy, profileOf, revolved, listsFit, reflectorsFit, revolutionRefusal, revolutionOf}
 use Rattle.profile.specs.Demands.{lengthBy}
 use Rattle.profile.specs.Asked.{ArcAsked, ProfileAsked, SendAsked, sendOutcome, JobAsked}
 use Rattle.profile.proofs.PointSums.{if-most}
@@ -68,16 +69,6 @@ arcs-asked g step before shot n (s ∷ ss) e few d h =
 pub by-long : (s : State) (g : Scan) (mask : Mask) (sent counter : ℕ) → length (profileBy s g mask sent counter) ≡ lengthBy s (g .reflectors) mask
 by-long s g (Mask.Plain word) sent counter = profile-long s g word sent counter
 by-long s g (Mask.Mixed high low) sent counter = mixed-long s g high low sent counter
-
--- `length_by`, by its two ways out
-module _ (s : State) (l : List ℕ) (mask : Mask) where
-  pub plain-length : (word n : ℕ) → mask ≡ Mask.Plain word → n ≡ lengthBy s l (Mask.Plain word) → n ≡ lengthBy s l mask
-  plain-length word n e h = rw e h
-
-  pub mixed-length : (high low number n : ℕ) → mask ≡ Mask.Mixed high low → number ≡ mixedNumber high low
-      → n ≡ mixedLength number (length (activeOf (s .working))) (total (λ a. a .points) (arcsOf s)) (reflectorsGiven l)
-      → n ≡ lengthBy s l mask
-  mixed-length high low number n e en h = rw (e, ← en) h
 
 -- the number of reflectors is a word
 pub given-fits : (l : List ℕ) → length l ≤ 704 → reflectorsGiven l < 65536
@@ -153,21 +144,17 @@ module _ (s : State) (ds es rs : List ℕ) (start n : ℕ) (en : n ≡ revolutio
         tests true false c d e = absurd (omega arith)
         tests false b c d e = absurd (omega arith)
 
-    module _ {d : List ℕ} where
-      pub no-profile : s .job ≡ Absent → {next : State} → next ≡ turned s
+    -- by whether there is a job
+    module _ {d : List ℕ} (b : Bool) (eb : b ≡ isJob (s .job)) where
+      pub no-profile : not b ≡ true → {next : State} → next ≡ turned s
           → Answered (reply next 0 0) d d (revolutionOf s (scanWith start ds es rs) (length d))
       unfolding revolved
-      no-profile j e =
-          let w : profileOf s (scanWith start ds es rs) (s .job) ≡ [] = ap (λ (x : Job). profileOf s (scanWith start ds es rs) x) j in
+      no-profile q e =
+          let w : profileOf s (scanWith start ds es rs) (s .job) ≡ [] = rw (said-no eb q) in
           rw (goes-on, e) (has-room s (revolved s (scanWith start ds es rs)) d 0 (ap length w) (omega arith) d (rw w (sym (over-none d))))
 
-      module _ {r : Reply} {d' : List ℕ} (mask : Mask) (sent sent' : ℕ)
-          (sends : Answered r d d' (delivered s (sendOutcome s (scanWith start ds es rs) mask sent') (length d))) where
-        pub counted-profile : {left : ℕ} → s .job ≡ Counted left mask sent → sent' ≡ sent + 1
-            → Answered r d d' (revolutionOf s (scanWith start ds es rs) (length d))
-        unfolding revolved
-        counted-profile j e = rw (goes-on, j) (rw (e, j) at sends)
-
-        pub endless-profile : s .job ≡ Endless mask sent → sent' ≡ risen sent → Answered r d d' (revolutionOf s (scanWith start ds es rs) (length d))
-        unfolding revolved
-        endless-profile j e = rw (goes-on, j) (rw (e, j) at sends)
+      pub with-profile : not b ≡ false → {mask : Mask} {sent : ℕ} {r : Reply} {d' : List ℕ} → mask ≡ maskOf (s .job) → sent ≡ sentAfter (s .job)
+          → Answered r d d' (delivered s (sendOutcome s (scanWith start ds es rs) mask sent) (length d))
+          → Answered r d d' (revolutionOf s (scanWith start ds es rs) (length d))
+      unfolding revolved
+      with-profile q em en sends = rw (goes-on, said-yes eb q) (rw (em, en) at sends)

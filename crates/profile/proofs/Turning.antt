@@ -16,7 +16,7 @@ use Rattle.state.specs.Fields.{withDrive, withCounter}
 use Rattle.state.specs.Ranges.{isMeasure, inRange}
 use Rattle.profile.specs.Profiles.{Scan}
 use Rattle.profile.specs.Asked.{JobAsked}
-use Rattle.profile.specs.Revolutions.{risen, jobAfter, turned, listsFit, revolutionRefusal}
+use Rattle.profile.specs.Revolutions.{risen, sentAfter, jobAfter, turned, listsFit, revolutionRefusal}
 
 -- `job_after`
 module _ (job : Job) where
@@ -45,6 +45,17 @@ rises = omega arith
 
 pub stays : 0 ≤ 1
 stays = omega arith
+
+-- `sent_after`
+module _ (job : Job) where
+  pub none-sent : job ≡ Absent → 0 ≡ sentAfter job
+  none-sent j = rw j
+
+  pub one-more-sent : {left : ℕ} {mask : Mask} {sent : ℕ} → job ≡ Counted left mask sent → sent + 1 ≡ sentAfter job
+  one-more-sent j = rw j
+
+  pub risen-sent : {mask : Mask} (sent n : ℕ) → job ≡ Endless mask sent → n ≡ risen sent → n ≡ sentAfter job
+  risen-sent sent n j e = rw (j, e)
 
 -- `turn`
 pub turned-so : (s d r : State) (j : Job) (n : ℕ) → j ≡ jobAfter (s .job) → d ≡ withDrive s (s .mode) (s .running) j → n ≡ risen (s .counter)

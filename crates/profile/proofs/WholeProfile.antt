@@ -1,4 +1,4 @@
--- `write_contour` and `write_profile`: their parts, and what stands in the buffer when they are written.
+-- `write_contour`: its parts, and what stands in the buffer when they are written.
 use mathlib.Core.Path.{_≡_, ap, _∙_}
 use mathlib.Core.List.{List, _++_}
 use Prim.Native.Nat.{ℕ, _+_, _*_, _≤_}
@@ -61,34 +61,3 @@ module _ {s : State} {g : Scan} {mask layer sent counter from : ℕ} {d₀ : Lis
 
       pub contour-done : {d₃ : List ℕ} {r : ℕ} → Put end d₂ at₂ d₃ r → Put (contour (contourFields s g mask layer sent counter)) d₀ from d₃ r
       contour-done p = rw parts (put-both d₀ from (front ++ middle) end all both p)
-
--- `write_profile`: with the number of sectors as the code has it
-module _ {s : State} {g : Scan} {mask sent counter : ℕ} {d₀ : List ℕ} {n : ℕ}
-    (asked : ProfileAsked s g (Mask.Plain mask) sent counter d₀) (count : n ≡ length (activeOf (s .working))) where
-  words : layout (fieldsOf s g mask sent counter) ≡ head mask n ++ contour (fieldsOf s g mask sent counter)
-  words = rw (fields-many s g mask sent counter, ← count)
-
-  fits : headLength + length (contour (fieldsOf s g mask sent counter)) ≤ length d₀
-  fits =
-      let h : length (layout (fieldsOf s g mask sent counter)) ≡ headLength + length (contour (fieldsOf s g mask sent counter)) =
-      ap length words ∙ length-append (head mask n) (contour (fieldsOf s g mask sent counter)) in
-      omega (arith, asked .room)
-
-  pub few-sectors : n ≤ 8
-  few-sectors = count-fits (s .working .sectors) n (asked .eight) count
-
-  pub head-room : headLength ≤ length d₀
-  head-room = omega (arith, fits)
-
-  module _ {d₁ : List ℕ} {at₁ : ℕ} (begun : Wrote (head mask n) d₀ d₁ at₁) where
-    pub contour-asked : ContourAsked s g mask 0 sent counter at₁ d₁
-    contour-asked =
-        record {
-          eight = asked .eight;
-          arcs-in = asked .arcs-in;
-          room = room begun (contour (fieldsOf s g mask sent counter)) fits;
-        }
-
-    pub profile-done : {d₂ : List ℕ} {r : ℕ} → Put (contour (contourFields s g mask 0 sent counter)) d₁ at₁ d₂ r
-        → Wrote (layout (fieldsOf s g mask sent counter)) d₀ d₂ r
-    profile-done p = rw words (and-put begun p)

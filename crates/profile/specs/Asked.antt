@@ -1,6 +1,6 @@
 -- Technical: no rule stands here. What the inner writers ask of their callers, and the words that each puts. No outside caller meets these.
 use mathlib.Core.Path.{_≡_}
-use mathlib.Core.List.{List, _++_}
+use mathlib.Core.List.{List, [], _++_}
 use Prim.Native.Nat.{ℕ, _+_, _≤_, _<_}
 use lib.Dec.{T}
 use lib.ListN.{length}
@@ -9,7 +9,9 @@ use Rattle.words.specs.Words.{laidAll}
 use Rattle.layout.specs.Bits as bits
 use Rattle.layout.specs.declared.Mask.{Mask}
 use Rattle.layout.specs.Fields.{Fields}
-use Rattle.layout.specs.Layout.{layoutSector, contour}
+use Rattle.layout.specs.MixedMasks.{mixedNumber, kindOf}
+use Rattle.layout.specs.Layout.{layoutSector, head, contour}
+use Rattle.layout.specs.Mixed.{kindNumbers, mixedHead}
 use Rattle.plan.specs.declared.Arc.{Arc}
 use Rattle.plan.specs.declared.Plan.{Plan}
 use Rattle.plan.specs.Sectors.{activeOf}
@@ -81,6 +83,18 @@ pub record ContourAsked (s : State) (g : Scan) (mask layer sent counter from : �
 -- the reflectors of a list, and the words behind a contour: how many there are, and theirs
 abbrev pub reflectorPartOf : ℕ → List ℕ → List ℕ
 reflectorPartOf mask l = selected mask bits.reflectors (reflectorsGiven l) ++ reflectorsOf mask l
+
+-- by a mask: the words that depend on no bit, the layer, and the words behind the contour
+abbrev pub headBy : Mask → ℕ → List ℕ
+headBy (Mask.Plain word) sectors = head word sectors
+headBy (Mask.Mixed high low) sectors = mixedHead high low sectors
+
+abbrev pub layerBy : Mask → ℕ
+layerBy mask = kindNumbers (kindOf mask) .layer
+
+abbrev pub endBy : Mask → List ℕ → List ℕ
+endBy (Mask.Plain word) l = []
+endBy (Mask.Mixed high low) l = reflectorPartOf (mixedNumber high low) l
 
 -- a profile by a mask, of which each arc's shots are in the lists
 pub record ProfileAsked (s : State) (g : Scan) (mask : Mask) (sent counter : ℕ) (out : List ℕ) : Type 0 where

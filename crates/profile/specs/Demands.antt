@@ -21,8 +21,8 @@ use Rattle.layout.specs.declared.Mask.{Mask}
 use Rattle.layout.specs.MixedMasks.{mixedNumber, mixedOk}
 use Rattle.layout.specs.Fields.{SectorFields}
 use Rattle.layout.specs.Layout.{Acceptable}
-use Rattle.layout.specs.Lengths.{profileLength, greatestLength}
-use Rattle.layout.specs.Mixed.{MixedAcceptable, mixedLength, greatestMixed}
+use Rattle.layout.specs.Lengths.{greatestLength}
+use Rattle.layout.specs.Mixed.{MixedAcceptable, lengthOf, greatestMixed}
 use Rattle.plan.specs.declared.Arc.{Arc}
 use Rattle.plan.specs.Sectors.{activeOf}
 use Rattle.plan.specs.Shots.{Shot, arcAt, runOf}
@@ -63,9 +63,7 @@ RangesKept = (s : State) (g : Scan) (room : ℕ) → T (inRange s) → T (inRang
 
 -- what the formula of its kind says of a mask, the active sectors, the points and the reflectors (rules 5.8 and 5.20)
 abbrev pub lengthBy : State → List ℕ → Mask → ℕ
-lengthBy s reflectors (Mask.Plain word) = profileLength word (length (activeOf (s .working))) (total (λ a. a .points) (arcsOf s))
-lengthBy s reflectors (Mask.Mixed high low) =
-    mixedLength (mixedNumber high low) (length (activeOf (s .working))) (total (λ a. a .points) (arcsOf s)) (reflectorsGiven reflectors)
+lengthBy s reflectors mask = lengthOf mask (length (activeOf (s .working))) (total (λ a. a .points) (arcsOf s)) (reflectorsGiven reflectors)
 
 -- how many words a revolution sends: none without a job, else what the formula says of the job's mask (rules 5.8 and 5.20)
 abbrev pub sentLength : State → Scan → ℕ

@@ -1,4 +1,5 @@
 // A revolution of the sensor, and the profile, plain or mixed, that it may send.
+mod by_mask;
 mod mixed;
 mod points;
 mod profiles;

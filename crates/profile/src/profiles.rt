@@ -1,4 +1,4 @@
-// A whole plain profile: its length, and its words. The contour is a mixed profile's too.
+// What a plain and a mixed profile share, their contour; and the head of a plain one.
 ghost use mathlib.Core.Path.{_≡_};
 ghost use Prim.Native.Nat.{_+_, _≤_};
 ghost use lib.ListN.{length};
@@ -6,15 +6,12 @@ ghost use Rattle.words.specs.Lists.{total};
 ghost use Rattle.words.specs.Buffers.{Put, Wrote};
 ghost use Rattle.plan.specs.Sectors.{activeOf};
 ghost use Rattle.plan.specs.Shots.{arcs};
-ghost use Rattle.layout.specs.declared.Mask.{Mask};
-ghost use Rattle.layout.specs.Layout.{head, headLength, contour, layout};
-ghost use Rattle.layout.specs.Lengths.{profileLength};
-ghost use Rattle.profile.specs.Profiles.{scan, fieldsOf};
-ghost use Rattle.profile.specs.Asked.{frontWords, statusWords, contourFields, ContourAsked, ProfileAsked};
+ghost use Rattle.layout.specs.Layout.{head, headLength, contour};
+ghost use Rattle.profile.specs.Profiles.{scan};
+ghost use Rattle.profile.specs.Asked.{frontWords, statusWords, contourFields, ContourAsked};
 use crate::puts::put_selected;
 use crate::sectors::write_sectors;
 use layout::ONE_LAYER;
-use layout::PLAIN_LAYER;
 use layout::PROFILE_CODE;
 use layout::bits;
 use plan::Plan;
@@ -37,17 +34,8 @@ pub(crate) fn plan_points(plan: Plan, step: Angle) -> u16
     sum
 }
 
-// The length of a plan's profile (rule 5.8).
-pub(crate) fn plan_length(plan: Plan, step: Angle, mask: u32) -> usize
-    ensures { λ r. ⌜ r ≡ profileLength mask (length (activeOf plan)) (total (λ a. a .points) (arcs (step .0) (activeOf plan))) ⌝ }
-{
-    let count = plan::active_count(plan);
-    let points = plan_points(plan, step);
-    layout::profile_length(mask, count as u16, points)
-}
-
 // The words that depend on no bit, at the front of the buffer; the place behind them (rule 5.4).
-fn put_head(out: &mut [u16], mask: u16, sectors: u16) -> usize
+pub(crate) fn put_head(out: &mut [u16], mask: u16, sectors: u16) -> usize
     requires { ⌜ (sectors ≤ 8) × (headLength ≤ length (now out)) ⌝ }
     ensures { λ r. ⌜ Wrote (head mask sectors) (now (out .entry)) (now (out .exit)) r ⌝ }
 {
@@ -101,36 +89,4 @@ pub(crate) fn write_contour(
     let a = put_front(out, from, mask, sent, counter, layer);
     let b = write_sectors(out, a, distances, echoes, start, rate, plan, step, mask);
     put_status(out, b, mask, status)
-}
-
-// The plain profile of a revolution over the front of the buffer; how many words it has (rule 5.5).
-pub(crate) fn write_profile(
-    out: &mut [u16],
-    state: State,
-    start: Time,
-    distances: &[u16],
-    echoes: &[u16],
-    mask: u16,
-    sent: u16,
-    counter: u16,
-) -> usize
-    requires { ⌜ ProfileAsked state (scan (start .0) (now distances) (now echoes)) (Mask.Plain mask) sent counter (now out) ⌝ }
-    ensures { λ r. ⌜ Wrote (layout (fieldsOf state (scan (start .0) (now (distances .entry)) (now (echoes .entry))) mask sent counter))
-        (now (out .entry)) (now (out .exit)) r ⌝ }
-{
-    let plan = state.working;
-    let count = plan::active_count(plan);
-    let a = put_head(out, mask, count as u16);
-    write_contour(
-        out,
-        a,
-        state,
-        start,
-        distances,
-        echoes,
-        mask as u32,
-        PLAIN_LAYER,
-        sent,
-        counter,
-    )
 }

@@ -2,16 +2,11 @@
 ghost use mathlib.Core.Path.{_≡_};
 ghost use lib.ListN.{length};
 ghost use Rattle.state.specs.Replies.{Answered, delivered};
-ghost use Prim.Native.Nat.{_≤_};
-ghost use Rattle.words.specs.Buffers.{Wrote};
 ghost use Rattle.profile.specs.Profiles.{scanWith};
-ghost use Rattle.profile.specs.Asked.{JobAsked, ProfileAsked, SendAsked, sendOutcome};
-ghost use Rattle.profile.specs.Demands.{lengthBy};
-ghost use Rattle.profile.specs.Revolutions.{risen, jobAfter, profileBy, turned, revolutionRefusal, RevolutionSays};
-use crate::mixed::plan_mixed_length;
-use crate::mixed::write_mixed;
-use crate::profiles::plan_length;
-use crate::profiles::write_profile;
+ghost use Rattle.profile.specs.Asked.{JobAsked, SendAsked, sendOutcome};
+ghost use Rattle.profile.specs.Revolutions.{risen, sentAfter, jobAfter, turned, revolutionRefusal, RevolutionSays};
+use crate::by_mask::length_by;
+use crate::by_mask::write_by;
 use layout::MOST_REFLECTORS;
 use layout::Mask;
 use layout::REFLECTOR;
@@ -52,6 +47,22 @@ fn job_after(job: Job) -> Job
     }
 }
 
+// The number sent with this revolution's profile counted; none is sent without a job (rule 5.3).
+fn sent_after(job: Job) -> u16
+    requires { ⌜ JobAsked job ⌝ }
+    ensures { λ r. ⌜ r ≡ sentAfter job ⌝ }
+{
+    match job {
+        Job::Absent => 0,
+        Job::Counted {
+            left: _,
+            mask: _,
+            sent,
+        } => sent + 1,
+        Job::Endless { mask: _, sent } => risen_by_one(sent),
+    }
+}
+
 // The state after a revolution.
 fn turn(state: State) -> State
     requires { ⌜ JobAsked (state .job) ⌝ }
@@ -89,66 +100,6 @@ fn revolution_refusal(state: State, distances: &[u16], echoes: &[u16], reflector
         return 27;
     }
     0
-}
-
-// The length of the profile that a mask asks for, of its kind (rules 5.8 and 5.20).
-fn length_by(state: State, mask: Mask, reflectors: &[u16]) -> usize
-    requires { ⌜ length (now reflectors) ≤ 704 ⌝ }
-    ensures { λ r. ⌜ r ≡ lengthBy state (now (reflectors .entry)) mask ⌝ }
-{
-    let plan = state.working;
-    let step = state.step;
-    match mask {
-        Mask::Plain(word) => plan_length(plan, step, word as u32),
-        Mask::Mixed(high, low) => plan_mixed_length(
-            plan,
-            step,
-            layout::mixed_number(high, low),
-            (reflectors.len() / REFLECTOR) as u16,
-        ),
-    }
-}
-
-// The profile that a mask asks for, over the front of the buffer; how many words it has (rules 5.3 and 5.19).
-fn write_by(
-    out: &mut [u16],
-    state: State,
-    start: Time,
-    distances: &[u16],
-    echoes: &[u16],
-    reflectors: &[u16],
-    mask: Mask,
-    sent: u16,
-    counter: u16,
-) -> usize
-    requires { ⌜ ProfileAsked state (scanWith (start .0) (now distances) (now echoes) (now reflectors)) mask sent counter (now out) ⌝ }
-    ensures { λ r. ⌜ Wrote (profileBy state (scanWith (start .0) (now (distances .entry)) (now (echoes .entry)) (now (reflectors .entry))) mask sent counter)
-        (now (out .entry)) (now (out .exit)) r ⌝ }
-{
-    match mask {
-        Mask::Plain(word) => write_profile(
-            out,
-            state,
-            start,
-            distances,
-            echoes,
-            word,
-            sent,
-            counter,
-        ),
-        Mask::Mixed(high, low) => write_mixed(
-            out,
-            state,
-            start,
-            distances,
-            echoes,
-            reflectors,
-            high,
-            low,
-            sent,
-            counter,
-        ),
-    }
 }
 
 // The profile of a job, and the state after it, where the buffer has room; refusal 6 with the state as it came where it has none (rule
@@ -218,39 +169,21 @@ pub fn revolution(
         };
     }
     let job = state.job;
-    match job {
-        Job::Absent => Reply {
+    if !state::is_job(job) {
+        return Reply {
             state: turn(state),
             refusal: 0,
             count: 0,
-        },
-        Job::Counted {
-            left: _,
-            mask,
-            sent,
-        } => {
-            send(
-                state,
-                start,
-                distances,
-                echoes,
-                reflectors,
-                mask,
-                sent + 1,
-                out,
-            )
-        }
-        Job::Endless { mask, sent } => {
-            send(
-                state,
-                start,
-                distances,
-                echoes,
-                reflectors,
-                mask,
-                risen_by_one(sent),
-                out,
-            )
-        }
+        };
     }
+    send(
+        state,
+        start,
+        distances,
+        echoes,
+        reflectors,
+        state::mask_of(job),
+        sent_after(job),
+        out,
+    )
 }

@@ -5,12 +5,15 @@ use units::Angle;
 use units::Millimetres;
 use units::Percent;
 
+mod jobs;
 mod modes;
 mod nav300;
 mod ranges;
 mod setters;
 mod start;
 
+pub use jobs::is_job;
+pub use jobs::mask_of;
 pub use modes::mode_number;
 pub use nav300::radius_ok;
 pub use nav300::rotation_ok;

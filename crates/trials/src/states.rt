@@ -2,6 +2,7 @@
 use crate::answers::put;
 use crate::cases::rest;
 use flat::plan_of;
+use layout::Kind;
 use layout::Mask;
 use plan::Plan;
 use state::Job;
@@ -26,11 +27,11 @@ fn mode_of(w: u16) -> Mode {
     }
 }
 
-// The mask of its kind, 0 for a plain one, and of two words; a plain one has the low word alone.
-fn mask_of(kind: u16, high: u16, low: u16) -> Mask {
-    match kind {
-        0 => Mask::Plain(low),
-        _ => Mask::Mixed(high, low),
+// The kind of a mask, 0 for a plain one.
+fn kind_of(w: u16) -> Kind {
+    match w {
+        0 => Kind::Plain,
+        _ => Kind::Mixed,
     }
 }
 
@@ -74,7 +75,8 @@ pub(crate) fn state_of(words: &[u16]) -> State {
     let stored = plan_of(rest(words, 19));
     let planned = state::with_plans(configured, working, stored);
     let mode = mode_of(word_at(words, 35));
-    let mask = mask_of(word_at(words, 48), word_at(words, 49), word_at(words, 41));
+    let kind = kind_of(word_at(words, 48));
+    let mask = layout::mask_from(kind, word_at(words, 49), word_at(words, 41));
     let job = job_of(
         word_at(words, 39),
         word_at(words, 40),
@@ -135,19 +137,6 @@ fn mask_words(mask: Mask) -> MaskWords {
     }
 }
 
-// The mask of a job; of none a plain one of no bit.
-fn mask_in(job: Job) -> Mask {
-    match job {
-        Job::Absent => Mask::Plain(0),
-        Job::Counted {
-            left: _,
-            mask,
-            sent: _,
-        } => mask,
-        Job::Endless { mask, sent: _ } => mask,
-    }
-}
-
 // A job's four words, 0 for what it does not have; of its mask the low word.
 fn put_job(out: &mut [u16], at: usize, job: Job) -> usize {
     match job {
@@ -165,7 +154,7 @@ fn put_job(out: &mut [u16], at: usize, job: Job) -> usize {
 
 // The kind of a job's mask, and its high word.
 fn put_mask_kind(out: &mut [u16], at: usize, job: Job) -> usize {
-    let words = mask_words(mask_in(job));
+    let words = mask_words(state::mask_of(job));
     let next = put(out, at, words.kind);
     put(out, next, words.high)
 }

@@ -1,6 +1,11 @@
 //! The mixed writer in plain Rust with indexed loops: the inputs, the checks and the words of `slackjib_mixed_profile`. The sectors are
-//! written by `writer.rs`, by remainder, which is the faster of its two forms.
-use crate::writer::{
+//! written as by `writer.rs`, by remainder, which is the faster of its two forms. It has a copy of that module for itself: a function that
+//! both used would be compiled otherwise than for the plain writers alone, and slow them down.
+#[path = "writer.rs"]
+#[allow(dead_code)]
+mod parts;
+
+use parts::{
     active_count, arc_at, in_range_but_mask, is_set, plan_of, plan_points, profile_length, put_if, revolution_shots, write_sector, Plan,
 };
 
