@@ -33,10 +33,14 @@ reflectorLength = 11
 abbrev pub mostReflectors : ℕ
 mostReflectors = 64
 
--- a mask by its kind, its number and its words (rules 2.7 and 2.11)
+-- a mask by its kind, and by its number (rules 2.7 and 2.11)
 abbrev pub kindOf : Mask → Kind
 kindOf (Mask.Plain word) = Kind.Plain
 kindOf (Mask.Mixed high low) = Kind.Mixed
+
+abbrev pub maskNumber : Mask → ℕ
+maskNumber (Mask.Plain word) = word
+maskNumber (Mask.Mixed high low) = mixedNumber high low
 
 -- the mask of a kind, from two words; a plain one has the low word alone (rules 2.7 and 2.11)
 abbrev pub maskFrom : Kind → ℕ → ℕ → Mask
@@ -49,14 +53,6 @@ isOf Kind.Plain (Mask.Plain word) = true
 isOf Kind.Plain (Mask.Mixed high low) = false
 isOf Kind.Mixed (Mask.Plain word) = false
 isOf Kind.Mixed (Mask.Mixed high low) = true
-
-abbrev pub maskNumber : Mask → ℕ
-maskNumber (Mask.Plain word) = word
-maskNumber (Mask.Mixed high low) = mixedNumber high low
-
-abbrev pub maskWords : Mask → List ℕ
-maskWords (Mask.Plain word) = word ∷ []
-maskWords (Mask.Mixed high low) = high ∷ low ∷ []
 
 -- a number that a mask of the kind may have: for the request, the state and the reader alike (rules 2.7 and 2.11)
 abbrev pub kindOk : Kind → ℕ → Bool
