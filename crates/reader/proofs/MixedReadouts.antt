@@ -41,10 +41,10 @@ module _ (ws : List ℕ) (n : ℕ) (head : n ≡ mixedHeadRefusal ws) (r : Mixed
   pub read-mixed-whole : n ≡ 0 → r ≡ mixedBodyOf ws → r ≡ readMixedOf ws
   read-mixed-whole h e = e ∙ sym (body-read ws (sym head ∙ h))
 
--- an accepted reading, by what its contour gives
-whole-is : {ws : List ℕ} {first mask sectors width start : ℕ} {f : ContourFound} {n : Word} (w : ContourWhole ws first mask sectors f)
-    → width ≡ reflectorWidth (mixedMaskIn ws)
-    → record {
+-- the reading of these words as the code makes it: what the contour gives, the word of bit 16, where the reflectors begin, and how wide each is
+abbrev read-so : List ℕ → ContourFound → Word → ℕ → ℕ → MixedReading
+read-so ws f n start width =
+    record {
       refusal = 0;
       place = Nowhere;
       upper = Given (getD ws 1 0);
@@ -59,7 +59,10 @@ whole-is : {ws : List ℕ} {first mask sectors width start : ℕ} {f : ContourFo
       reflectors = n;
       start = start;
       width = width;
-    } ≡ acceptedMixed ws (w .value) n start
+    }
+
+whole-is : {ws : List ℕ} {first mask sectors width start : ℕ} {f : ContourFound} {n : Word} (w : ContourWhole ws first mask sectors f)
+    → width ≡ reflectorWidth (mixedMaskIn ws) → read-so ws f n start width ≡ acceptedMixed ws (w .value) n start
 whole-is w e = rw (w .sent, w .counter, w .layer, w .list, w .high, w .low, e)
 
 -- where the words of all reflectors are more than there are, each reflector has one
@@ -136,23 +139,7 @@ module _ (ws : List ℕ) (head : mixedHeadRefusal ws ≡ 0) (mask : ℕ) (em : m
               let one : t .at + all < length ws = omega arith in
               e ∙ sym (by-left ws counted few-read fit (behind ∙ drop-cons ws (t .at + all) 0 one)) ∙ body-read ws head
 
-          pub mixed-body-whole : length ws - t .at ≤ all
-              → record {
-                refusal = 0;
-                place = Nowhere;
-                upper = Given (getD ws 1 0);
-                lower = Given (getD ws 2 0);
-                sent = f .sent;
-                counter = f .counter;
-                layer = f .layer;
-                count = mixedCountIn ws;
-                sectors = f .list;
-                high = f .high;
-                low = f .low;
-                reflectors = t .word;
-                start = t .at;
-                width = width;
-              } ≡ mixedBodyOf ws
+          pub mixed-body-whole : length ws - t .at ≤ all → read-so ws f (t .word) (t .at) width ≡ mixedBodyOf ws
           mixed-body-whole h =
               let past : length ws ≤ t .at + all = omega arith in
               let none : drop (reflectorWords ws (t .word)) (drop (t .at) ws) ≡ [] = behind ∙ drop-of-length-le ws past in
