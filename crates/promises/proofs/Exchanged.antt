@@ -41,7 +41,8 @@ tests false b c r d e = absurd (omega arith)
 
 turning : (s : State) (g : Scan) (room : ℕ) → length (s .working .sectors) ≡ 8 → revolutionOf s g room .reply .refusal ≡ 0 → Turning s g
 turning s g room eight e =
-    let e′ = rw (unfit (eqb (length (g .reflectors) % reflectorLength) 0) (length (g .reflectors) / reflectorLength)) at (sym (refusals-exactly s g room) ∙ e) in
+    let e′ = rw (unfit (eqb (length (g .reflectors) % reflectorLength) 0) (length (g .reflectors) / reflectorLength)) at
+    (sym (refusals-exactly s g room) ∙ e) in
     let t = tests (inRange s) (isMeasure (s .mode)) (listsFit s g) (reflectorsFit g) (ltb room (length (revolved s g .words))) e′ in
     record { eight = eight; range = t .0; measures = t .1; lists = t .2; reflectors = t .3 }
 

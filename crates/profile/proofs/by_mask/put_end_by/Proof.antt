@@ -10,7 +10,12 @@ put-end-by-spec =
     (λ c. search needs)
     (λ c. search needs)
     (λ c κs. search needs)
-    (λ c κs. end-room _ _ _ (c .before .before .before .mask .given .1) (c .mixed-number .ensures) _ (c .before .before .before .before .before .before .before .pre))
+    (λ c κs.
+    let m = c .before .before .before in
+    end-room _ _ _ (m .mask .given .1) (c .mixed-number .ensures) _ (m .before .before .before .before .pre))
     (λ c. no-end _ _ _ (c .enum-told .given .1))
     (λ c. search needs)
-    (λ c. mixed-end _ _ _ (c .before .before .before .before .before .before .mask .given .1) (c .before .before .before .mixed-number .ensures) (c .before .before .put-reflector-part .ensures)))
+    (λ c.
+    let p = c .before .before in
+    let n = p .before in
+    mixed-end _ _ _ (n .before .before .before .mask .given .1) (n .mixed-number .ensures) (p .put-reflector-part .ensures)))

@@ -26,7 +26,8 @@ write-by-spec =
     (λ c κs.
     let h = c .before .before .before in
     let l = h .before .before in
-    contour-asked (start l .pre) (l .before .before .active-count .ensures) (l .before .mask-number .ensures) (h .put-head-by .ensures) _ (l .layer-of .ensures))
+    contour-asked (start l .pre) (l .before .before .active-count .ensures) (l .before .mask-number .ensures) (h .put-head-by .ensures) _
+    (l .layer-of .ensures))
     (λ c κs.
     let w = c .before .before .before in
     let h = w .before .before .before .before in

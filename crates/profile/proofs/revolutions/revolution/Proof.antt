@@ -33,7 +33,8 @@ revolution-spec =
     (λ c κs. send-turn (taken (c .before .before) 0))
     (λ c.
     let e = c .before .before .before in
-    no-profile _ _ _ _ _ _ (e .before .revolution-refusal .ensures) (e .if1 .left) _ (c .before .before .is-job .ensures) (c .before .if2 .taken) (c .turn .ensures))
+    no-profile _ _ _ _ _ _ (e .before .revolution-refusal .ensures) (e .if1 .left) _ (c .before .before .is-job .ensures) (c .before .if2 .taken)
+    (c .turn .ensures))
     (λ c κs. search needs)
     (λ c κs. send-turn (taken (c .before .before .before) 0))
     (λ c κs. taken (c .before .before .before .before .before) _)

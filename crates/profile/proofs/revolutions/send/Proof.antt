@@ -24,5 +24,5 @@ send-spec =
     let w = c .before .before .before in
     let test = w .before .before .before in
     let l = test .before in
-    sends (start l .pre) (start l .args .mask) (start l .args .sent) _ (l .length-by .ensures) (c .turn .ensures) (w .before .before .risen-by-one .ensures) (test .if1 .left)
-    (w .write-by .ensures)))
+    sends (start l .pre) (start l .args .mask) (start l .args .sent) _ (l .length-by .ensures) (c .turn .ensures)
+    (w .before .before .risen-by-one .ensures) (test .if1 .left) (w .write-by .ensures)))
