@@ -1,6 +1,6 @@
 -- Rules, section 5: the bits of a mask by what they select, and in which part of a profile. The code has the
 -- same names in `layout::bits`.
-use mathlib.Core.List.{List, [], _∷_}
+use mathlib.Core.List.{List, [], _∷_, _++_}
 use Prim.Native.Nat.{ℕ}
 
 -- once, before the sectors (rule 5.5)
@@ -95,7 +95,7 @@ ofOne = time ∷ meanEcho ∷ spots ∷ []
 
 -- all of a reflector, which need the number of reflectors (rule 2.11)
 abbrev pub ofReflector : List ℕ
-ofReflector = cartesian ∷ polar ∷ time ∷ meanEcho ∷ spots ∷ []
+ofReflector = ofFour ++ ofOne
 
 -- those that no mixed mask has, beside the reserved ones of a plain mask (rule 2.11)
 abbrev pub reservedMixed : List ℕ

@@ -6,4 +6,5 @@ pub mod Untouched
 pub mod ShutOut
 pub mod Refuted
 pub mod MixedRefuted
+pub mod MixedRows
 pub mod Benched

@@ -7,4 +7,5 @@ pub mod Unsent
 pub mod StandIns
 pub mod WrongAnswers
 pub mod MixedSlips
+pub mod MixedFigures
 pub mod Figures
