@@ -73,11 +73,11 @@ module _ (ws : List ℕ) (r : MixedReading) (is : r ≡ readMixedOf ws) (n : ℕ
 module _ (words : RefT (List ℕ)) (r : MixedReading) (is : r ≡ readMixedOf (now words)) (n : ℕ) (en : n ≡ numberOf (r .reflectors))
     (part : RefT (List ℕ)) where
   module _ (place : ℕ) where
-    pub reflector-lent : place < n
-        → now part ≡ take (startAt r place + r .width - startAt r place) (drop (startAt r place) (now words))
-        → ptr part ≡ (ptr words .0, startAt r place * 2 + ptr words .1) → ReflectorSays words place part
+    pub reflector-lent : place < n → {at : ℕ} → now part ≡ take (at + r .width - at) (drop at (now words))
+        → ptr part ≡ (ptr words .0, at * 2 + ptr words .1) → at ≡ startAt r place → ReflectorSays words place part
     unfolding reflectorOf reflectorStart
-    reflector-lent h e p = rw (← is) (part-lent words (reflectorsRead r) place (startAt r place) (r .width) part (rw en at h) e p)
+    reflector-lent h e p ea =
+        rw (← is) (part-lent words (reflectorsRead r) place (startAt r place) (r .width) part (rw en at h) (rw ea at e) (rw ea at p))
 
     pub no-reflector-lent : n ≤ place → now part ≡ [] → ptr part ≡ (ptr words .0, 0 * 2 + ptr words .1) → ReflectorSays words place part
     unfolding reflectorOf reflectorStart

@@ -35,7 +35,7 @@ reflector-spec =
     (λ c. search needs)
     (λ c.
     let t = c .before .before .before .before in
-    reflector-lent _ _ (t .before .before .read-mixed .ensures) _ (t .before .number-of .ensures) _ _ (t .if1 .taken) refl refl)
+    reflector-lent _ _ (t .before .before .read-mixed .ensures) _ (t .before .number-of .ensures) _ _ (t .if1 .taken) refl refl (omega arith))
     (λ c.
     let t = c .before in
     no-reflector-lent _ _ (t .before .before .read-mixed .ensures) _ (t .before .number-of .ensures) _ _ (t .if1 .left) refl refl))
