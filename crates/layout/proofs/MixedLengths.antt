@@ -80,5 +80,6 @@ module _ (mask : Mask) (s p k r : ℕ) where
   pub plain-length : (word : ℕ) → mask ≡ Mask.Plain word → r ≡ profileLength word s p → r ≡ lengthOf mask s p k
   plain-length word e h = rw e h
 
-  pub mixed-length : (high low n : ℕ) → mask ≡ Mask.Mixed high low → n ≡ mixedNumber high low → r ≡ mixedLength n s p k → r ≡ lengthOf mask s p k
+  pub mixed-length : (high low n : ℕ) → mask ≡ Mask.Mixed high low → n ≡ mixedNumber high low → r ≡ mixedLength n s p k
+      → r ≡ lengthOf mask s p k
   mixed-length high low n e en h = rw (e, ← en) h

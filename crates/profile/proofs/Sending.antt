@@ -34,7 +34,8 @@ use Rattle.state.proofs.Measuring.{measures}
 use Rattle.state.proofs.Delivery.{reply, is-refused, no-room, has-room}
 use Rattle.profile.specs.Profiles.{Scan, scanWith, arcsOf}
 use Rattle.profile.specs.Mixed.{reflectorsGiven}
-use Rattle.profile.specs.Revolutions.{risen, sentAfter, turned, profileBy, profileOf, revolved, listsFit, reflectorsFit, revolutionRefusal, revolutionOf}
+use Rattle.profile.specs.Revolutions.{risen, sentAfter, turned, profileBy, profileOf, revolved, listsFit, reflectorsFit}
+use Rattle.profile.specs.Revolutions.{revolutionRefusal, revolutionOf}
 use Rattle.profile.specs.Demands.{lengthBy}
 use Rattle.profile.specs.Asked.{ArcAsked, ProfileAsked, SendAsked, sendOutcome, JobAsked}
 use Rattle.profile.proofs.PointSums.{if-most}

@@ -59,5 +59,6 @@ module _ {s : State} {g : Scan} {mask layer sent counter from : ℕ} {d₀ : Lis
       pub status-room : at₂ + length end ≤ length d₂
       status-room = room-second d₀ from (front ++ middle) end all both
 
-      pub contour-done : {d₃ : List ℕ} {r : ℕ} → Put end d₂ at₂ d₃ r → Put (contour (contourFields s g mask layer sent counter)) d₀ from d₃ r
+      pub contour-done : {d₃ : List ℕ} {r : ℕ} → Put end d₂ at₂ d₃ r
+          → Put (contour (contourFields s g mask layer sent counter)) d₀ from d₃ r
       contour-done p = rw parts (put-both d₀ from (front ++ middle) end all both p)

@@ -1,5 +1,5 @@
--- Rules, section 7: the P rows of mixed profiles. They stand here, behind all that goes by edits, since the words of whole profiles take long to
--- compute. Proved in proofs/MixedRows.antt.
+-- Rules, section 7: the P rows of mixed profiles. They stand here and not in `profile`, since the words of whole profiles take seconds to compute,
+-- which each of its edits would pay. Proved in proofs/MixedRows.antt.
 use mathlib.Core.List.{List, [], _∷_, _++_}
 use Prim.Native.Nat.{ℕ, zero, suc}
 use lib.ListN.{take, drop}

@@ -101,7 +101,8 @@ module _ (kind k : Kind) (ws : List ℕ) (e : kind ≡ k) where
   info-there r h = rw e h
 
 -- `head_refusal`
-pub long-enough : (head : ℕ) (kind : Kind) (ws : List ℕ) → head ≡ kindNumbers kind .first → head ≤ length ws → kindNumbers kind .first ≤ length ws
+pub long-enough : (head : ℕ) (kind : Kind) (ws : List ℕ) → head ≡ kindNumbers kind .first → head ≤ length ws
+    → kindNumbers kind .first ≤ length ws
 long-enough head kind ws e h = rw e at h
 
 -- what a head that passes has

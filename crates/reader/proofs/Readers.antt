@@ -18,7 +18,8 @@ some-behind : {A : Type 0} (xs ys : List A) → T (some ys) → T (some (xs ++ y
 some-behind [] ys t = t
 some-behind (x ∷ xs) ys t = tt
 
-module _ {F : Type 0} {good : F → Type 0} {lay : F → List ℕ} {number : List ℕ → ℕ} {fields : List ℕ → F} (r : Reads good lay number fields) where
+module _ {F : Type 0} {good : F → Type 0} {lay : F → List ℕ} {number : List ℕ → ℕ} {fields : List ℕ → F}
+    (r : Reads good lay number fields) where
   pub takes-exactly : (ws : List ℕ) → (number ws ≡ 0) ↔ ((f : F) × good f × (ws ≡ lay f))
   takes-exactly ws = (r .taken ws, λ t. subst (λ (v : List ℕ). number v ≡ 0) (sym (t .2)) (r .reads (t .0) (t .1)))
 
