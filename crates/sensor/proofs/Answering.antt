@@ -11,10 +11,11 @@ use Rattle.state.specs.declared.Reply.{Reply}
 use Rattle.state.specs.Replies.{delivered, Answered}
 use Rattle.state.proofs.Delivery.{reply, is-refused, no-room, has-room}
 use Rattle.services.specs.declared.Served.{Served}
-use Rattle.services.specs.Answers.{longest, Gives, unpacked}
+use Rattle.services.specs.Answers.{answer, longest, Gives, unpacked}
 use Rattle.services.proofs.Packing.{unpacked-long, unpacks}
 use Rattle.sensor.specs.declared.Service.{Service}
-use Rattle.sensor.specs.Table.{rowOf, response, serviceOf, outcomeOf}
+use Rattle.sensor.specs.declared.Miscount.{Miscount}
+use Rattle.sensor.specs.Table.{rowOf, response, serviceOf, outcomeOf, saidOf}
 use Rattle.sensor.specs.Requests.{requestRefusal, outcome, requestOf}
 use Rattle.sensor.proofs.Codes.{Has, service-has, response-is}
 
@@ -33,12 +34,22 @@ answered-so : (code : ℕ) (v : Service) → Has code v → (s : State) (a b c d
 answered-so code v (inl h) s a b c d = ap (λ (n : ℕ). rowOf v .does s n a b c d) (response-is code v (h .0) (h .1))
 answered-so code v (inr e) s a b c d = rw e
 
-pub words-served : (r : Served) (s : State) (ws : List ℕ) (code n a b c d : ℕ) (v : Service) → Gives r (rowOf v .does s n a b c d)
-    → v ≡ serviceOf code → n ≡ response code % 65536 → code ≡ getD ws 0 0
-    → a ≡ getD ws 1 0 → b ≡ getD ws 2 0 → c ≡ getD ws 3 0 → d ≡ getD ws 4 0 → Gives r (outcome s ws)
-unfolding outcome
-words-served r s ws code n a b c d v g ev en e0 e1 e2 e3 e4 =
-    rw (← e0, ← e1, ← e2, ← e3, ← e4, ← answered-so code (serviceOf code) (service-has code) s a b c d) (rw (ev, en) at g)
+said-of : (code : ℕ) (v : Service) → Has code v → saidOf (rowOf v .miscount) (response code % 65536) ≡ saidOf (rowOf v .miscount) (response (rowOf v .code))
+said-of code v (inl h) = ap (saidOf (rowOf v .miscount)) (response-is code v (h .0) (h .1))
+said-of code v (inr e) = rw e
+
+module _ (r : Served) (s : State) (ws : List ℕ) (v : Service) (want code n : ℕ) (e0 : code ≡ getD ws 0 0) (en : n ≡ response code % 65536)
+    (ev : v ≡ serviceOf code) (ew : want ≡ rowOf v .wordsIn) where
+  pub miscount-said : (k : Miscount) → k ≡ rowOf v .miscount → (length ws ≡ want → ⊥) → Gives r (answer s (saidOf k n)) → Gives r (outcome s ws)
+  unfolding outcome
+  miscount-said k ek h g =
+      rw (← e0, ← ev, ← ew, ne-eqb _ _ h, ← said-of code v (rw ev (service-has code))) (rw (ek, en) at g)
+
+  pub words-served : (a b c d : ℕ) → Gives r (rowOf v .does s n a b c d) → length ws ≡ want
+      → a ≡ getD ws 1 0 → b ≡ getD ws 2 0 → c ≡ getD ws 3 0 → d ≡ getD ws 4 0 → Gives r (outcome s ws)
+  unfolding outcome
+  words-served a b c d g h e1 e2 e3 e4 =
+      rw (← e0, ← e1, ← e2, ← e3, ← e4, ← ev, ← ew, eq-eqb _ _ h, ← answered-so code v (rw ev (service-has code)) s a b c d) (rw en at g)
 
 -- `deliver`
 module _ (v : Served) (s : State) (d : List ℕ) (long : length (v .words) ≡ longest) (short : v .count ≤ longest) where

@@ -1,23 +1,30 @@
 -- The table's services, one by one: each is found by its code, and is fine. Every theorem of the table rests on this alone.
 use mathlib.Core.Path.{_≡_, refl, subst}
-use mathlib.Core.Bool.{or-false}
+use mathlib.Core.Bool.{Bool, true, false, or-false}
 use mathlib.Core.List.{List, []}
 use Prim.Native.Nat.{ℕ, _≤_}
-use lib.Dec.{T, ltb, eqb}
-use lib.ListN.{getD}
+use lib.Dec.{T, ltb, leb, eqb}
+use lib.ListN.{length, getD}
+use Rattle.words.specs.Choice.{if_then_else_}
 use Rattle.words.proofs.Tests.{picked}
 use Rattle.state.specs.declared.State.{State}
 use Rattle.state.specs.declared.Mode.{Mode}
 use Rattle.state.specs.declared.Mode.the-variants.{Idle, Rotate, Measure}
+use Rattle.state.specs.Changes.{Part}
 use Rattle.state.specs.Replies.{Outcome}
+use Rattle.state.proofs.SameParts.{same-in}
+use Rattle.services.specs.Answers.{answer, longest}
 use Rattle.services.specs.Configuration.{configItem}
 use Rattle.services.proofs.Lawful.{Fine, stays}
 use Rattle.services.proofs.Lawful as law
 use Rattle.services.proofs.SettingsLawful as settings
 use Rattle.services.proofs.MixedLawful as mixed
 use Rattle.sensor.specs.declared.Service.{Service}
-use Rattle.sensor.specs.Table.{rowOf, response, serviceOf, allowed, silent}
+use Rattle.sensor.specs.declared.Miscount.{Miscount}
+use Rattle.sensor.specs.declared.Miscount.the-variants.{Refused, NoValues}
+use Rattle.sensor.specs.Table.{rowOf, response, serviceOf, allowed, outcomeOf, silent, miscounted, isRefused, saidOf}
 use Rattle.sensor.specs.Requests.{outcome}
+use Rattle.sensor.proofs.WrongCounts.{said-short}
 
 -- the first word after the code has 16 bits, and the mode is listed
 abbrev pub Asked : Service → State → ℕ → Type 0
@@ -78,9 +85,42 @@ lawful Service.CancelMixedProfile = record { found = refl; fine = λ s r a b c d
 lawful Service.SavePermanent = record { found = refl; fine = λ s r a b c d. settings.save-fine s r }
 lawful Service.Unknown = record { found = refl; fine = λ s r a b c d. stays r s [] refl tt refl }
 
--- the same of a request's outcome
+-- what holds of the answer to a wrong number of words, and of what the service does, holds of a request's outcome
+pub outcome-by : (P : Outcome → Type 0) (s : State) (ws : List ℕ)
+    → (let v = serviceOf (getD ws 0 0) in
+    P (answer s (saidOf (rowOf v .miscount) (response (rowOf v .code))))
+    → P (outcomeOf v s (getD ws 1 0) (getD ws 2 0) (getD ws 3 0) (getD ws 4 0)) → P (outcome s ws))
+unfolding outcome
+outcome-by P s ws = picked P (miscounted (serviceOf (getD ws 0 0)) (length ws)) _ _
+
+-- an answer to a wrong number of words is fine in every row: it leaves the state
+said-fine : (k : Miscount) (s : State) (code : ℕ) (changes : List Part) (Asked : Type 0) → T (leb (length (saidOf k code)) longest)
+    → Fine (isRefused k) code changes Asked s (answer s (saidOf k code))
+said-fine Refused s code changes Asked few = stays code s [] refl few (same-in changes s)
+said-fine (NoValues times) s code changes Asked few = stays code s _ refl few (same-in changes s)
+
+-- no word is due for a request: its number of words is wrong and refused, or right and the service gives none
+abbrev unanswered : List ℕ → Bool
+unanswered ws =
+    let v = serviceOf (getD ws 0 0) in
+    if miscounted v (length ws) then isRefused (rowOf v .miscount) else silent v (getD ws 1 0) (getD ws 2 0) (getD ws 3 0) (getD ws 4 0)
+
+-- so every outcome of a request is fine
 pub outcome-fine : (s : State) (ws : List ℕ)
     → (let v = serviceOf (getD ws 0 0) in
-    FineRow v s (response (rowOf v .code)) (getD ws 1 0) (getD ws 2 0) (getD ws 3 0) (getD ws 4 0) (outcome s ws))
+    Fine (unanswered ws) (response (rowOf v .code)) (rowOf v .changes) (Asked v s (getD ws 1 0)) s (outcome s ws))
 unfolding outcome
-outcome-fine s ws = lawful (serviceOf (getD ws 0 0)) .fine s _ (getD ws 1 0) (getD ws 2 0) (getD ws 3 0) (getD ws 4 0)
+outcome-fine s ws = go (miscounted v (length ws))
+  where
+    v : Service
+    v = serviceOf (getD ws 0 0)
+
+    code : ℕ
+    code = response (rowOf v .code)
+
+    go : (b : Bool)
+        → Fine (if b then isRefused (rowOf v .miscount) else silent v (getD ws 1 0) (getD ws 2 0) (getD ws 3 0) (getD ws 4 0)) code
+        (rowOf v .changes) (Asked v s (getD ws 1 0)) s
+        (if b then answer s (saidOf (rowOf v .miscount) code) else outcomeOf v s (getD ws 1 0) (getD ws 2 0) (getD ws 3 0) (getD ws 4 0))
+    go true = said-fine (rowOf v .miscount) s code (rowOf v .changes) (Asked v s (getD ws 1 0)) (said-short (getD ws 0 0) code)
+    go false = lawful v .fine s code (getD ws 1 0) (getD ws 2 0) (getD ws 3 0) (getD ws 4 0)

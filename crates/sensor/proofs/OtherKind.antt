@@ -15,8 +15,8 @@ use Rattle.state.specs.Jobs.{hasKind}
 use Rattle.services.specs.Measurement.{cancelled}
 use Rattle.sensor.specs.declared.Service.{Service}
 use Rattle.sensor.specs.Table.{rowOf, serviceOf, outcomeOf}
-use Rattle.sensor.specs.Requests.{outcome, requestOf}
-use Rattle.sensor.proofs.Lawful.{lawful}
+use Rattle.sensor.specs.Requests.{requestOf}
+use Rattle.sensor.proofs.Lawful.{lawful, outcome-by}
 use Rattle.sensor.proofs.Demand1.{requested-by}
 
 abbrev pub other : Kind → Kind
@@ -41,9 +41,9 @@ not-cancelled kind s h = rw (not-its-kind kind (s .job) h)
 -- a request for a service that leaves the state, whatever words come behind its code, leaves it
 left-by : (w : Service) (s : State) → ((a b c d : ℕ) → outcomeOf w s a b c d .after ≡ s) → (ws : List ℕ) (room : ℕ)
     → getD ws 0 0 ≡ rowOf w .code → requestOf s ws room .reply .state ≡ s
-unfolding outcome
 left-by w s h ws room e =
-    requested-by (λ x. x .reply .state ≡ s) s ws room (λ _. refl) (λ _. rw (ap serviceOf e ∙ lawful w .found) (h _ _ _ _))
+    requested-by (λ x. x .reply .state ≡ s) s ws room (λ _. refl)
+    (λ _. outcome-by (λ o. o .after ≡ s) s ws refl (rw (ap serviceOf e ∙ lawful w .found) (h _ _ _ _)))
 
 module _ (s : State) (ws : List ℕ) (room : ℕ) where
   pub mixed-left : T (hasKind Kind.Mixed (s .job)) → getD ws 0 0 ≡ rowOf Service.CancelProfile .code → requestOf s ws room .reply .state ≡ s

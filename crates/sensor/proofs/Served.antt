@@ -24,9 +24,9 @@ use Rattle.services.specs.Nav300.{badValue, valueSaid}
 use Rattle.services.proofs.Lawful.{Responds}
 use Rattle.sensor.specs.declared.Service.{Service}
 use Rattle.sensor.specs.Table.{rowOf, response, serviceOf, outcomeOf, silent}
-use Rattle.sensor.specs.Requests.{outcome, requestOf}
+use Rattle.sensor.specs.Requests.{requestOf}
 use Rattle.sensor.specs.Demands.{TableHolds, OnlyThese}
-use Rattle.sensor.proofs.Lawful.{lawful, outcome-fine}
+use Rattle.sensor.proofs.Lawful.{lawful, outcome-by, outcome-fine}
 use Rattle.sensor.proofs.Demand1.{requested-by, served-so}
 use Rattle.sensor.proofs.OtherKind.{mixed-left, plain-left}
 
@@ -124,10 +124,10 @@ said-no-by w words h s v a b c d q =
 
 request-no : (w : Service) (words : List ℕ) → SaysNoBy w words → (s : State) (ws : List ℕ) (room : ℕ)
     → requestOf s ws room .written ≡ response (rowOf w .code) ∷ words → requestOf s ws room .reply .state ≡ s
-unfolding outcome
 request-no w words h s ws room =
     requested-by (λ x. x .written ≡ response (rowOf w .code) ∷ words → x .reply .state ≡ s) s ws room (λ _ _. refl)
-    (λ _. said-no-by w words h s (serviceOf (getD ws 0 0)) _ _ _ _)
+    (λ _. outcome-by (λ o. o .words ≡ response (rowOf w .code) ∷ words → o .after ≡ s) s ws (λ _. refl)
+    (said-no-by w words h s (serviceOf (getD ws 0 0)) _ _ _ _))
 
 pub only-these : OnlyThese
 only-these s ws room =

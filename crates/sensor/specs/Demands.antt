@@ -2,7 +2,7 @@
 -- proofs/SettingsKept.antt.
 use mathlib.Core.Path.{_≡_}
 use mathlib.Core.Logic.{_↔_}
-use mathlib.Core.Bool.{Bool, not, _||_}
+use mathlib.Core.Bool.{Bool, not, _&&_, _||_}
 use mathlib.Core.List.{List, [], _∷_}
 use Prim.Native.Nat.{ℕ, _≤_}
 use lib.Dec.{T, ltb, eqb}
@@ -18,7 +18,7 @@ use Rattle.state.specs.Replies.{Unchanged}
 use Rattle.services.specs.Answers.{longest, noValue}
 use Rattle.services.specs.Nav300.{badValue}
 use Rattle.sensor.specs.declared.Service.{Service}
-use Rattle.sensor.specs.Table.{rowOf, response, services, serviceOf, allowed, outcomeOf, isListed, silent}
+use Rattle.sensor.specs.Table.{rowOf, response, services, serviceOf, allowed, outcomeOf, isListed, silent, miscounted, isRefused}
 use Rattle.sensor.specs.Requests.{outcome, requestOf}
 
 -- Demand 1: a refusal leaves buffer and state as they were, and counts no word (rule 6.2)
@@ -32,13 +32,13 @@ abbrev pub asksNone : List ℕ → List Service → Bool
 asksNone ws vs = every (λ v. not (eqb (getD ws 0 0) (rowOf v .code))) vs
 
 -- the numbers 1 to 6, each beside what it is due for: a field of the state is out of its range; nothing is asked; no row has the code; the
--- row asks for more or fewer words; it does not name the mode; the room is less than the answer (rule 6.1)
+-- row asks for more or fewer words and refuses these; it does not name the mode; the room is less than the answer (rule 6.1)
 abbrev pub numbersForNo : State → List ℕ → ℕ → List No
 numbersForNo s ws room =
     no 1 (not (inRange s))
     ∷ no 2 (not (some ws))
     ∷ no 3 (asksNone ws services)
-    ∷ no 4 (not (eqb (length ws) (rowOf (serviceOf (getD ws 0 0)) .wordsIn)))
+    ∷ no 4 (miscounted (serviceOf (getD ws 0 0)) (length ws) && isRefused (rowOf (serviceOf (getD ws 0 0)) .miscount))
     ∷ no 5 (not (allowed (serviceOf (getD ws 0 0)) (s .mode)))
     ∷ no 6 (ltb room (length (outcome s ws .words)))
     ∷ []

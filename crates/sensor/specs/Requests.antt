@@ -1,5 +1,5 @@
 -- Rules, section 6: a request, its refusals 1 to 6 in order, and what it hands back.
-use mathlib.Core.Bool.{not}
+use mathlib.Core.Bool.{not, _&&_}
 use mathlib.Core.List.{List}
 use Prim.Native.Nat.{ℕ}
 use lib.Dec.{eqb}
@@ -10,14 +10,15 @@ use Rattle.state.specs.declared.Mode.{Mode}
 use Rattle.state.specs.Ranges.{inRange}
 use Rattle.state.specs.declared.Reply.{Reply}
 use Rattle.state.specs.Replies.{Outcome, Result, refused, delivered, Answered}
+use Rattle.services.specs.Answers.{answer}
 use Rattle.sensor.specs.declared.Service.{Service}
-use Rattle.sensor.specs.Table.{rowOf, serviceOf, allowed, outcomeOf, isListed}
+use Rattle.sensor.specs.Table.{rowOf, response, serviceOf, allowed, outcomeOf, isListed, miscounted, isRefused, saidOf}
 
--- 3 where no row has the code, 4 where the row asks for more or fewer words, 5 where it does not name the mode (rule 6.1)
+-- 3 where no row has the code, 4 where it asks for more or fewer words and refuses these, 5 where it does not name the mode (rule 6.1)
 unfoldable pub serviceRefusal : Service → ℕ → Mode → ℕ
 serviceRefusal v count mode =
     if not (isListed v) then 3 else
-    if not (eqb count (rowOf v .wordsIn)) then 4 else
+    if miscounted v count && isRefused (rowOf v .miscount) then 4 else
     if not (allowed v mode) then 5 else 0
 
 -- 1 where a field of the state is out of its range, 2 where nothing is asked, then 3 to 5; 0 for none (rule 6.1)
@@ -27,9 +28,14 @@ requestRefusal s ws =
     if eqb (length ws) 0 then 2 else
     serviceRefusal (serviceOf (getD ws 0 0)) (length ws) (s .mode)
 
--- what the service of the first word does with the others (rule 4.3)
+-- what the service of the first word does with the others; where their number is wrong they are not looked at, the row's answer to that is
+-- given, and the state stays (rules 4.3 and 4.25)
 unfoldable pub outcome : State → List ℕ → Outcome
-outcome s ws = outcomeOf (serviceOf (getD ws 0 0)) s (getD ws 1 0) (getD ws 2 0) (getD ws 3 0) (getD ws 4 0)
+outcome s ws =
+    let v = serviceOf (getD ws 0 0) in
+    if miscounted v (length ws)
+    then answer s (saidOf (rowOf v .miscount) (response (rowOf v .code)))
+    else outcomeOf v s (getD ws 1 0) (getD ws 2 0) (getD ws 3 0) (getD ws 4 0)
 
 -- a request into a buffer of so many words: one of refusals 1 to 5, or 6, or the outcome (rule 4.17)
 unfoldable pub requestOf : State → List ℕ → ℕ → Result

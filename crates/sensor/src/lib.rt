@@ -1,4 +1,5 @@
 // The sensor's side of a request: the table of the services, the refusals, and the answer into a lent buffer.
+mod counts;
 mod requests;
 mod table;
 
@@ -27,4 +28,10 @@ pub enum Service {
     CancelMixedProfile,
     SavePermanent,
     Unknown,
+}
+
+// What becomes of a wrong number of words: it is refused, or answered, by the response code and then no value so many times (rule 4.25).
+pub enum Miscount {
+    Refused,
+    NoValues(usize),
 }

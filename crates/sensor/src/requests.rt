@@ -7,6 +7,8 @@ ghost use Rattle.state.specs.Replies.{Answered, delivered};
 ghost use Rattle.services.specs.Answers.{longest, Gives, unpacked};
 ghost use Rattle.sensor.specs.Table.{serviceOf};
 ghost use Rattle.sensor.specs.Requests.{serviceRefusal, requestRefusal, outcome, RequestSays};
+use crate::counts::is_refused;
+use crate::counts::say_miscount;
 use crate::table::is_allowed;
 use crate::table::response_code;
 use crate::table::row_of;
@@ -23,11 +25,13 @@ fn service_refusal(code: u16, count: usize, mode: Mode) -> u16
 {
     let row = row_of(code);
     let want = row.1;
+    let miscount = row.5;
+    let refused = is_refused(miscount);
     let allowed = is_allowed(row, mode);
     if want == 0 {
         return 3;
     }
-    if count != want {
+    if (count != want) & refused {
         return 4;
     }
     if !allowed {
@@ -50,14 +54,19 @@ fn request_refusal(state: State, words: &[u16]) -> u16
     service_refusal(words[0], words.len(), mode)
 }
 
-// What the service of the first word does with the others.
+// What the service of the first word does with the others, or what it answers to a wrong number of them (rule 4.25).
 fn serve_words(state: State, words: &[u16]) -> Served
     ensures { λ r. ⌜ Gives r (outcome state (now (words .entry))) ⌝ }
 {
     let code = words::word_at(words, 0);
     let row = row_of(code);
     let service = row.0;
+    let want = row.1;
+    let miscount = row.5;
     let response = response_code(code);
+    if words.len() != want {
+        return say_miscount(state, response, miscount);
+    }
     let a = words::word_at(words, 1);
     let b = words::word_at(words, 2);
     let c = words::word_at(words, 3);

@@ -36,7 +36,7 @@ pub use working::trans_rotate;
 pub const LONGEST: usize = 5;
 
 // What is answered in the place of a value that there is none of; `noValue` in the specs.
-pub(crate) const NO_VALUE: u16 = 0xFFFF;
+pub const NO_VALUE: u16 = 0xFFFF;
 
 // The next state, and the answer: its first count words.
 pub struct Served {

@@ -1,5 +1,6 @@
 use borrow.Author.Needs.{needs}
-use Rattle.sensor.proofs.Answering.{words-served}
+use Rattle.sensor.proofs.Answering.{miscount-said, words-served}
+use Rattle.sensor.proofs.WrongCounts.{listed-short}
 use Rattle.sensor.proofs.requests.serve_words.Statement.{statement}
 use Rattle.sensor.proofs.requests.serve_words.Tie as tie
 
@@ -10,6 +11,8 @@ serve-words-spec =
     (λ c κs. search needs)
     (λ c κs. search needs)
     (λ c κs. search needs)
+    (λ c κs. search (listed-short, needs))
+    (λ c. search miscount-said)
     (λ c κs. search needs)
     (λ c κs. search needs)
     (λ c κs. search needs)

@@ -9,6 +9,7 @@ service-refusal-spec =
     (tie.spec
     (λ c κs. search needs)
     (λ c κs. search needs)
+    (λ c κs. search needs)
     (λ c. search not-listed)
     (λ c. search wrong-count)
     (λ c. search wrong-mode)
