@@ -8,6 +8,7 @@ use Rattle.plan.proofs.Rounds.{revolution}
 use Rattle.plan.proofs.Tiling.{tiling, counting}
 use Rattle.sensor.proofs.Served.{table-holds, only-these}
 use Rattle.sensor.proofs.SettingsKept.{settings-kept}
+use Rattle.sensor.proofs.Miscounted.{four-exactly, never-four, wrong-counts-said, wrong-counts-leave, words-unread}
 use Rattle.profile.proofs.Revolved as revolutions
 use Rattle.profile.proofs.Carried.{points-are-shots, sent-length, never-longer, mixed-points-are-shots, mixed-never-longer}
 use Rattle.profile.proofs.AllShots.{all-points, mixed-all-points}
@@ -35,6 +36,8 @@ demand1 =
     record {
       answered = determined;
       request-numbers = requests.refusals-exactly;
+      four-exactly = four-exactly;
+      never-four = never-four;
       revolution-numbers = revolutions.refusals-exactly;
       plan-numbers = plans.refusals-exactly;
       reader-numbers = readings.refusals-exactly;
@@ -60,6 +63,9 @@ demand2 =
     record {
       tabled = table-holds;
       only-these = only-these;
+      wrong-counts-said = wrong-counts-said;
+      wrong-counts-leave = wrong-counts-leave;
+      words-unread = words-unread;
       settings-kept = settings-kept;
       settings-unsent = settings-unsent;
       runs-round = revolution;

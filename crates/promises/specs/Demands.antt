@@ -6,6 +6,7 @@ use Rattle.layout.specs.Mixed.{MixedLayoutLength}
 use Rattle.plan.specs.Demands.{Tiling, Counting, Revolution}
 use Rattle.sensor.specs.Demands.{RefusalsExactly as RequestNumbers, RefusalsChangeNothing as RequestUnchanged, RoomForAll}
 use Rattle.sensor.specs.Demands.{TableHolds, OnlyThese, SettingsKept}
+use Rattle.sensor.specs.WrongCounts.{FourExactly, NeverFour, WrongCountsSaid, WrongCountsLeave, WordsUnread}
 use Rattle.profile.specs.Demands.{RefusalsExactly as RevolutionNumbers, RefusalsChangeNothing as RevolutionUnchanged}
 use Rattle.profile.specs.Demands.{NearestTimes, SentLength, NeverLonger, PointsAreShots, AllPoints}
 use Rattle.profile.specs.Demands.{MixedNeverLonger, MixedPointsAreShots, MixedAllPoints}
@@ -26,6 +27,9 @@ pub record Demand1 : Type 1 where
   pub answered : Determined
   -- the numbers, each given exactly then
   pub request-numbers : RequestNumbers
+  -- of them 4: what it is given for, and four services never give it
+  pub four-exactly : FourExactly
+  pub never-four : NeverFour
   pub revolution-numbers : RevolutionNumbers
   pub plan-numbers : PlanNumbers
   pub reader-numbers : ReaderNumbers
@@ -51,12 +55,16 @@ pub record Demand1 : Type 1 where
   pub life : Life
 
 -- 2. What is answered, what the state becomes and how a profile is laid out are as the rules say. The reader accepts the profiles that
--- carry what it needs, and no other list of words; and from what it reads the same words can be put together (rules 4.3, 4.4, 5.5, 5.10,
--- 5.15, 5.19 and 5.22)
+-- carry what it needs, and no other list of words; and from what it reads the same words can be put together (rules 4.3, 4.4, 4.25, 5.5,
+-- 5.10, 5.15, 5.19 and 5.22)
 pub record Demand2 : Type 0 where
   -- the table and its answers, and that a service changes no part of the state but its own
   pub tabled : TableHolds
   pub only-these : OnlyThese
+  -- a wrong number of words: what is answered, behind the mode's test; that the state stays, and that no word behind the code is looked at
+  pub wrong-counts-said : WrongCountsSaid
+  pub wrong-counts-leave : WrongCountsLeave
+  pub words-unread : WordsUnread
   -- the settings of the NAV300: which requests leave them; revolutions do, and do not depend on them
   pub settings-kept : SettingsKept
   pub settings-unsent : SettingsUnsent

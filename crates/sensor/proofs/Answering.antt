@@ -34,7 +34,8 @@ answered-so : (code : ℕ) (v : Service) → Has code v → (s : State) (a b c d
 answered-so code v (inl h) s a b c d = ap (λ (n : ℕ). rowOf v .does s n a b c d) (response-is code v (h .0) (h .1))
 answered-so code v (inr e) s a b c d = rw e
 
-said-of : (code : ℕ) (v : Service) → Has code v → saidOf (rowOf v .miscount) (response code % 65536) ≡ saidOf (rowOf v .miscount) (response (rowOf v .code))
+said-of : (code : ℕ) (v : Service) → Has code v
+    → saidOf (rowOf v .miscount) (response code % 65536) ≡ saidOf (rowOf v .miscount) (response (rowOf v .code))
 said-of code v (inl h) = ap (saidOf (rowOf v .miscount)) (response-is code v (h .0) (h .1))
 said-of code v (inr e) = rw e
 

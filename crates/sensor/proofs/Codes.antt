@@ -9,7 +9,7 @@ use lib.Dec.{T, ltb, eqb}
 use borrow.Author.Tests.{eqb-true, ltb-true}
 use Rattle.words.specs.Choice.{if_then_else_}
 use Rattle.words.specs.Lists.{every}
-use Rattle.words.proofs.Tests.{and-l, and-r, is-true}
+use Rattle.words.proofs.Tests.{and-l, and-r, is-true, picked}
 use Rattle.sensor.specs.declared.Service.{Service}
 use Rattle.sensor.specs.Table.{rowOf, response, services, named, serviceOf, isListed}
 
@@ -32,6 +32,17 @@ code-of code (v ∷ vs) h = go (eqb code (rowOf v .code)) refl (code-of code vs 
 pub service-has : (code : ℕ) → Has code (serviceOf code)
 unfolding serviceOf
 service-has code = code-of code services tt
+
+-- what holds of each service of the table, and of none, holds of the one that a code names
+named-by : (p : Service → Bool) (code : ℕ) (vs : List Service) → T (p Service.Unknown) → T (every p vs) → T (p (named code vs))
+named-by p code [] u h = u
+named-by p code (v ∷ vs) u h =
+    picked (λ (w : Service). T (p w)) (eqb code (rowOf v .code)) v (named code vs) (and-l (p v) (every p vs) h)
+    (named-by p code vs u (and-r (p v) (every p vs) h))
+
+pub found-by : (p : Service → Bool) (code : ℕ) → T (p Service.Unknown) → T (every p services) → T (p (serviceOf code))
+unfolding serviceOf
+found-by p code = named-by p code services
 
 -- the response code of a service is 8000h more than its own, which 16 bits hold
 pub response-is : (code : ℕ) (v : Service) → T (isNamed v) → rowOf v .code ≡ code → response code % 65536 ≡ response (rowOf v .code)

@@ -8,5 +8,6 @@ pub mod Lawful
 pub mod Demand1
 pub mod OtherKind
 pub mod Served
+pub mod Miscounted
 pub mod SettingsKept
 pub mod RequestRows

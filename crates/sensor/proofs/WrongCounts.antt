@@ -1,16 +1,12 @@
 -- A wrong number of words: how its answer is laid, word by word, and that it is never longer than the longest.
 use mathlib.Core.Path.{_≡_, refl, sym, ap, _∙_}
-use mathlib.Core.Bool.{Bool, true, false}
+use mathlib.Core.Bool.{Bool}
 use mathlib.Core.List.{List, [], _∷_, _++_}
 use Prim.Native.Nat.{ℕ, zero, suc, _+_, _≤_, _<_}
 use native.Mathlib.Omega.{arith}
-use native.Mathlib.Numerals.{add-one}
-use lib.Dec.{T, leb, eqb, leb→le}
+use lib.Dec.{T, leb, leb→le}
 use lib.ListN.{length, take, drop, set, replicate, length-replicate, replicate-append-replicate}
-use Rattle.words.specs.Choice.{if_then_else_}
-use Rattle.words.specs.Lists.{every}
 use Rattle.words.specs.Buffers.{over}
-use Rattle.words.proofs.Tests.{and-l, and-r, picked}
 use Rattle.words.proofs.Overs.{over-next}
 use Rattle.state.specs.declared.State.{State}
 use Rattle.services.specs.declared.Served.{Served}
@@ -18,7 +14,8 @@ use Rattle.services.specs.Answers.{answer, noValue, longest, Gives}
 use Rattle.sensor.specs.declared.Service.{Service}
 use Rattle.sensor.specs.declared.Miscount.{Miscount}
 use Rattle.sensor.specs.declared.Miscount.the-variants.{NoValues}
-use Rattle.sensor.specs.Table.{rowOf, services, named, serviceOf, saidOf, Lists}
+use Rattle.sensor.specs.Table.{rowOf, serviceOf, saidOf, Lists}
+use Rattle.sensor.proofs.Codes.{found-by}
 
 -- `no_values`: the code and so many words of no value, over zeros
 unfoldable pub laid : ℕ → ℕ → List ℕ
@@ -74,17 +71,9 @@ few-times m times code e h =
     let long : length (replicate times noValue) ≡ times = length-replicate times noValue in
     omega arith
 
--- what holds of each service of a list, and of none, holds of the one that a code names
-found-by : (p : Service → Bool) (code : ℕ) (vs : List Service) → T (p Service.Unknown) → T (every p vs) → T (p (named code vs))
-found-by p code [] u h = u
-found-by p code (v ∷ vs) u h =
-    picked (λ (w : Service). T (p w)) (eqb code (rowOf v .code)) v (named code vs) (and-l (p v) (every p vs) h)
-    (found-by p code vs u (and-r (p v) (every p vs) h))
-
 -- no row's answer to a wrong number of words is too long
 pub said-short : (code n : ℕ) → T (leb (length (saidOf (rowOf (serviceOf code) .miscount) n)) longest)
-unfolding serviceOf
-said-short code n = found-by (λ v. leb (length (saidOf (rowOf v .miscount) n)) longest) code services tt tt
+said-short code n = found-by (λ v. leb (length (saidOf (rowOf v .miscount) n)) longest) code tt tt
 
 -- `serve_words`
 pub listed-short : (v : Service) (want : ℕ) (i r m : Bool) (k : Miscount) (code n : ℕ) → Lists v want i r m k code → length (saidOf k n) ≤ longest

@@ -2,6 +2,7 @@
 use mathlib.Core.List.{List, [], _∷_, _++_}
 use Prim.Native.Nat.{ℕ}
 use Rattle.words.specs.Rows.{Row, Shown}
+use Rattle.plan.specs.Sectors.{stopOf, entryAt}
 use Rattle.state.specs.declared.State.{State}
 use Rattle.state.specs.Jobs.{jobNumbers}
 use Rattle.state.specs.Fresh.{freshState}
@@ -57,6 +58,36 @@ abbrev jobAfter : List (List ℕ) → List ℕ
 jobAfter requests =
     let n = jobNumbers (stateAfter freshState (rotated 0 ∷ measured ∷ requests) .job) in
     n .kind ∷ n .left ∷ n .mask ∷ n .mixed ∷ []
+
+-- requests with a wrong number of words, and some with the right one between them (rule 7.19)
+abbrev wrongCounts : List (List ℕ)
+wrongCounts =
+    (0x0105 ∷ [])
+    ∷ (0x0105 ∷ 0x00F3 ∷ 0 ∷ [])
+    ∷ (0x0104 ∷ [])
+    ∷ (0x020A ∷ 0 ∷ 1 ∷ 0x0B40 ∷ [])
+    ∷ (0x020B ∷ [])
+    ∷ (0x020B ∷ 0 ∷ 0 ∷ [])
+    ∷ (0x020B ∷ 0 ∷ [])
+    ∷ (0x0301 ∷ [])
+    ∷ (0x0302 ∷ 0 ∷ [])
+    ∷ rotated 0
+    ∷ measured
+    ∷ (0x0301 ∷ 0 ∷ 1 ∷ [])
+    ∷ (0x0301 ∷ [])
+    ∷ (0x0301 ∷ 5 ∷ 2 ∷ 0 ∷ [])
+    ∷ (0x020A ∷ 0 ∷ [])
+    ∷ (0x0302 ∷ 0 ∷ [])
+    ∷ []
+
+-- the port, sector 0 of both plans, and the job with its number sent, behind some requests to a fresh sensor (rule 7.19)
+abbrev leftAfter : List (List ℕ) → List ℕ
+leftAfter requests =
+    let s = stateAfter freshState requests in
+    let n = jobNumbers (s .job) in
+    let working = entryAt (s .working) 0 in
+    let stored = entryAt (s .stored) 0 in
+    s .port ∷ working .function ∷ stopOf working ∷ stored .function ∷ stopOf stored ∷ n .kind ∷ n .left ∷ n .mask ∷ n .mixed ∷ n .sent ∷ []
 
 abbrev pub requestRows : List Row
 requestRows =
@@ -180,6 +211,29 @@ requestRows =
     ∷ record { value = jobAfter ((0x0301 ∷ 3 ∷ 1 ∷ []) ∷ (0x1302 ∷ []) ∷ []); figure = 1 ∷ 3 ∷ 1 ∷ 0 ∷ [] }
     ∷ record { value = jobAfter ((0x0301 ∷ 3 ∷ 1 ∷ []) ∷ mixedProfile 0 2 0 ∷ []); figure = 1 ∷ 3 ∷ 1 ∷ 0 ∷ [] }
     ∷ record { value = jobAfter ((0x0301 ∷ 3 ∷ 1 ∷ []) ∷ mixedProfile 0 1 0 ∷ []); figure = 2 ∷ 0 ∷ 65536 ∷ 1 ∷ [] }
+    -- wrong numbers of words: answered by four services in their modes, refused by 5 elsewhere, and by 4 of CANCEL_PROFILE (rule 7.19)
+    ∷ record {
+      value = dialogue freshState wrongCounts;
+      figure =
+          0 ∷ 0x8105 ∷ 0xFFFF
+          ∷ 0 ∷ 0x8105 ∷ 0xFFFF
+          ∷ 0 ∷ 0x8104 ∷ 0
+          ∷ 0 ∷ 0x820A ∷ 0xFFFF ∷ 0xFFFF ∷ 0xFFFF
+          ∷ 0 ∷ 0x820B ∷ 0xFFFF ∷ 0xFFFF ∷ 0xFFFF
+          ∷ 0 ∷ 0x820B ∷ 0xFFFF ∷ 0xFFFF ∷ 0xFFFF
+          ∷ 0 ∷ 0x820B ∷ 0 ∷ 3 ∷ 5752
+          ∷ 5
+          ∷ 4
+          ∷ 0 ∷ 0x8403 ∷ 0 ∷ 2
+          ∷ 0 ∷ 0x8404 ∷ 0 ∷ 3 ∷ 0
+          ∷ 0
+          ∷ 0 ∷ 0x8301
+          ∷ 0 ∷ 0x8301
+          ∷ 5
+          ∷ 4 ∷ [];
+    }
+    -- port and plans are fresh ones behind them, and the job is the one that the right number of words started (rule 7.19)
+    ∷ record { value = leftAfter wrongCounts; figure = 0 ∷ 3 ∷ 5752 ∷ 3 ∷ 5752 ∷ 2 ∷ 0 ∷ 1 ∷ 0 ∷ 0 ∷ [] }
     ∷ []
 
 abbrev pub RequestFigures : Type 0

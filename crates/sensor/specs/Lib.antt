@@ -2,4 +2,5 @@
 pub mod Table
 pub mod Requests
 pub mod Demands
+pub mod WrongCounts
 pub mod Figures
