@@ -1,19 +1,27 @@
 -- Refusals 1 to 5 in their order: one law for each way out, over what the callees ensure.
-use mathlib.Core.Path.{_≡_, sym, _∙_}
-use mathlib.Core.Bool.{Bool, true, false, not, _&&_}
+use mathlib.Core.Path.{_≡_, _∙_}
+use mathlib.Core.Bool.{Bool, true, false, not}
 use mathlib.Core.List.{List}
 use Prim.Native.Nat.{ℕ}
-use lib.Dec.{eqb}
 use lib.ListN.{length, getD}
 use borrow.Author.Tests.{eq-eqb, ne-eqb}
+use Rattle.words.specs.Choice.{if_then_else_}
 use Rattle.words.proofs.Tests.{said-no, said-yes}
 use Rattle.state.specs.declared.State.{State}
 use Rattle.state.specs.declared.Mode.{Mode}
 use Rattle.state.specs.Ranges.{inRange}
 use Rattle.sensor.specs.declared.Service.{Service}
 use Rattle.sensor.specs.declared.Miscount.{Miscount}
-use Rattle.sensor.specs.Table.{rowOf, serviceOf, listed, allowed, miscounted, isRefused, Lists}
+use Rattle.sensor.specs.Table.{rowOf, serviceOf, listed, allowed, isRefused, Lists}
 use Rattle.sensor.specs.Requests.{serviceRefusal, requestRefusal}
+
+-- `mode_refusal`
+module _ (a u : Bool) (e : a ≡ u) where
+  pub not-in-mode : not a ≡ true → _≡_ {A = ℕ} 5 (if not u then 5 else 0)
+  not-in-mode q = rw (said-no e q)
+
+  pub in-mode : not a ≡ false → _≡_ {A = ℕ} 0 (if not u then 5 else 0)
+  in-mode q = rw (said-yes e q)
 
 -- `service_refusal`
 module _ (v : Service) (want : ℕ) (i r m : Bool) (k : Miscount) (code count : ℕ) (mode : Mode) (l : Lists v want i r m k code) where
@@ -24,25 +32,25 @@ module _ (v : Service) (want : ℕ) (i r m : Bool) (k : Miscount) (code count : 
   unfolding serviceRefusal
   not-listed h = rw (← want-is, eq-eqb _ _ h)
 
-  module _ (some : want ≡ 0 → ⊥) (f : Bool) (ef : f ≡ isRefused k) where
-    test-is : (not (eqb count want) && f) ≡ (miscounted (serviceOf code) count && isRefused (rowOf (serviceOf code) .miscount))
-    test-is = rw (ef, l .miscount, l .service, want-is)
+  module _ (some : want ≡ 0 → ⊥) (n : ℕ) (en : n ≡ (if not (listed i r m mode) then 5 else 0)) where
+    mode-is : n ≡ (if not (allowed (serviceOf code) mode) then 5 else 0)
+    mode-is = rw (← l .service, ← l .idle, ← l .rotate, ← l .measure) en
 
-    pub wrong-count : (not (eqb count want) && f) ≡ true → 4 ≡ serviceRefusal (serviceOf code) count mode
+    pub right-count : count ≡ want → n ≡ serviceRefusal (serviceOf code) count mode
     unfolding serviceRefusal
-    wrong-count h = rw (sym test-is ∙ h, ← want-is, ne-eqb _ _ some)
+    right-count h = rw (← want-is, ne-eqb _ _ some, eq-eqb _ _ h) mode-is
 
-    module _ (right : (not (eqb count want) && f) ≡ false) (a : Bool) (ea : a ≡ listed i r m mode) where
-      mode-is : a ≡ allowed (serviceOf code) mode
-      mode-is = rw (← l .service, ← l .idle, ← l .rotate, ← l .measure) ea
+    module _ (wrong : count ≡ want → ⊥) (f : Bool) (ef : f ≡ isRefused k) where
+      test-is : isRefused (rowOf (serviceOf code) .miscount) ≡ f
+      test-is = rw (ef, l .miscount, l .service)
 
-      pub wrong-mode : not a ≡ true → 5 ≡ serviceRefusal (serviceOf code) count mode
+      pub refused-count : f ≡ true → 4 ≡ serviceRefusal (serviceOf code) count mode
       unfolding serviceRefusal
-      wrong-mode q = rw (sym test-is ∙ right, ← want-is, ne-eqb _ _ some, said-no mode-is q)
+      refused-count h = rw (test-is ∙ h, ← want-is, ne-eqb _ _ some, ne-eqb _ _ wrong)
 
-      pub no-objection : not a ≡ false → 0 ≡ serviceRefusal (serviceOf code) count mode
+      pub said-count : f ≡ false → n ≡ serviceRefusal (serviceOf code) count mode
       unfolding serviceRefusal
-      no-objection q = rw (sym test-is ∙ right, ← want-is, ne-eqb _ _ some, said-yes mode-is q)
+      said-count h = rw (test-is ∙ h, ← want-is, ne-eqb _ _ some, ne-eqb _ _ wrong) mode-is
 
 -- `request_refusal`
 module _ (s : State) (ws : List ℕ) (a : Bool) (ea : a ≡ inRange s) where

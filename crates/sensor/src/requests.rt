@@ -9,7 +9,7 @@ ghost use Rattle.sensor.specs.Table.{serviceOf};
 ghost use Rattle.sensor.specs.Requests.{serviceRefusal, requestRefusal, outcome, RequestSays};
 use crate::counts::is_refused;
 use crate::counts::say_miscount;
-use crate::table::is_allowed;
+use crate::table::mode_refusal;
 use crate::table::response_code;
 use crate::table::row_of;
 use crate::table::serve;
@@ -19,25 +19,24 @@ use state::Mode;
 use state::Reply;
 use state::State;
 
-// Refusals 3, 4 and 5 (rule 6.1).
+// Refusals 3, 4 and 5. A wrong number of words that is not refused is answered, and that is for the mode to allow (rules 4.25 and 6.1).
 fn service_refusal(code: u16, count: usize, mode: Mode) -> u16
     ensures { λ r. ⌜ r ≡ serviceRefusal (serviceOf code) count mode ⌝ }
 {
     let row = row_of(code);
     let want = row.1;
     let miscount = row.5;
-    let refused = is_refused(miscount);
-    let allowed = is_allowed(row, mode);
+    let by_mode = mode_refusal(row, mode);
     if want == 0 {
         return 3;
     }
-    if (count != want) & refused {
+    if count == want {
+        return by_mode;
+    }
+    if is_refused(miscount) {
         return 4;
     }
-    if !allowed {
-        return 5;
-    }
-    0
+    by_mode
 }
 
 // Refusals 1 to 5, 0 for none (rule 6.1).

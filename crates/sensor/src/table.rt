@@ -1,6 +1,8 @@
 // The table: codes, words in, modes, and the function of each service (rule 4.3).
 ghost use mathlib.Core.Path.{_≡_};
+ghost use mathlib.Core.Bool.{not};
 ghost use Prim.Native.Nat.{_%_};
+ghost use Rattle.words.specs.Choice.{if_then_else_};
 ghost use Rattle.services.specs.Answers.{Gives};
 ghost use Rattle.sensor.specs.Table.{rowOf, response, listed, Lists};
 use crate::Miscount;
@@ -49,7 +51,7 @@ pub(crate) fn row_of(code: u16) -> Row
 }
 
 // The mode is listed.
-pub(crate) fn is_allowed(row: Row, mode: Mode) -> bool
+fn is_allowed(row: Row, mode: Mode) -> bool
     ensures { λ r. ⌜ r ≡ listed (row .2) (row .3) (row .4) mode ⌝ }
 {
     match mode {
@@ -57,6 +59,16 @@ pub(crate) fn is_allowed(row: Row, mode: Mode) -> bool
         Mode::Rotate => row.3,
         Mode::Measure => row.4,
     }
+}
+
+// Refusal 5 where the mode is not listed, and 0 where it is (rule 6.1).
+pub(crate) fn mode_refusal(row: Row, mode: Mode) -> u16
+    ensures { λ r. ⌜ r ≡ (if not (listed (row .2) (row .3) (row .4) mode) then 5 else 0) ⌝ }
+{
+    if !is_allowed(row, mode) {
+        return 5;
+    }
+    0
 }
 
 // The response code of a request's (rule 4.1).

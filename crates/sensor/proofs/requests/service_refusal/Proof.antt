@@ -1,5 +1,5 @@
 use borrow.Author.Needs.{needs}
-use Rattle.sensor.proofs.Refusals.{not-listed, wrong-count, wrong-mode, no-objection}
+use Rattle.sensor.proofs.Refusals.{not-listed, right-count, refused-count, said-count}
 use Rattle.sensor.proofs.requests.service_refusal.Statement.{statement}
 use Rattle.sensor.proofs.requests.service_refusal.Tie as tie
 
@@ -9,8 +9,8 @@ service-refusal-spec =
     (tie.spec
     (λ c κs. search needs)
     (λ c κs. search needs)
-    (λ c κs. search needs)
     (λ c. search not-listed)
-    (λ c. search wrong-count)
-    (λ c. search wrong-mode)
-    (λ c. search no-objection))
+    (λ c. search right-count)
+    (λ c κs. search needs)
+    (λ c. search refused-count)
+    (λ c. search said-count))
