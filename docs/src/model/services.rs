@@ -1,4 +1,5 @@
-// Rules, section 4: the table of the 20 services, what each does and answers, and refusals 1 to 6 of a request.
+// Rules, section 4: the table of the 20 services, what each does and answers, to a wrong number of words too, and refusals 1
+// to 6 of a request.
 
 use crate::mask::{self, Mask};
 use crate::measure_checks;
@@ -40,6 +41,8 @@ pub struct Service {
     pub code: u16,
     pub words_in: usize,
     pub modes: &'static [Mode],
+    /// Rule 4.25: what is answered to another number of words, behind the response code; none where 4 refuses it.
+    pub on_wrong_count: Option<&'static [u16]>,
 }
 
 const ALL: &[Mode] = &[Mode::Idle, Mode::Rotate, Mode::Measure];
@@ -49,26 +52,26 @@ const ROTATE_MEASURE: &[Mode] = &[Mode::Rotate, Mode::Measure];
 const MEASURE: &[Mode] = &[Mode::Measure];
 
 pub const TABLE: [Service; 20] = [
-    Service { name: "GET_STATUS", code: GET_STATUS, words_in: 1, modes: ALL },
-    Service { name: "GET_SIGNAL", code: GET_SIGNAL, words_in: 1, modes: ALL },
-    Service { name: "SET_SIGNAL", code: SET_SIGNAL, words_in: 2, modes: ALL },
-    Service { name: "SET_CONFIG", code: SET_CONFIG, words_in: 5, modes: IDLE },
-    Service { name: "GET_CONFIG", code: GET_CONFIG, words_in: 2, modes: ALL },
-    Service { name: "SET_FUNCTION", code: SET_FUNCTION, words_in: 5, modes: IDLE_ROTATE },
-    Service { name: "GET_FUNCTION", code: GET_FUNCTION, words_in: 2, modes: ALL },
-    Service { name: "GET_PROFILE", code: GET_PROFILE, words_in: 3, modes: MEASURE },
-    Service { name: "CANCEL_PROFILE", code: CANCEL_PROFILE, words_in: 1, modes: MEASURE },
-    Service { name: "DO_RESET", code: DO_RESET, words_in: 2, modes: ALL },
-    Service { name: "TRANS_IDLE", code: TRANS_IDLE, words_in: 1, modes: ALL },
-    Service { name: "TRANS_ROTATE", code: TRANS_ROTATE, words_in: 2, modes: ALL },
-    Service { name: "TRANS_MEASURE", code: TRANS_MEASURE, words_in: 1, modes: ROTATE_MEASURE },
-    Service { name: "SET_ROTATE_DIRECTION", code: SET_ROTATE_DIRECTION, words_in: 2, modes: IDLE_ROTATE },
-    Service { name: "SET_REFLECTOR_CONFIG", code: SET_REFLECTOR_CONFIG, words_in: 3, modes: IDLE_ROTATE },
-    Service { name: "GET_ROTATE_DIRECTION", code: GET_ROTATE_DIRECTION, words_in: 1, modes: ALL },
-    Service { name: "GET_REFLECTOR_CONFIG", code: GET_REFLECTOR_CONFIG, words_in: 1, modes: ALL },
-    Service { name: "GET_MIXED_PROFILE", code: GET_MIXED_PROFILE, words_in: 4, modes: MEASURE },
-    Service { name: "CANCEL_MIXED_PROFILE", code: CANCEL_MIXED_PROFILE, words_in: 1, modes: MEASURE },
-    Service { name: "SAVE_PERMANENT", code: SAVE_PERMANENT, words_in: 1, modes: IDLE_ROTATE },
+    Service { name: "GET_STATUS", code: GET_STATUS, words_in: 1, modes: ALL, on_wrong_count: None },
+    Service { name: "GET_SIGNAL", code: GET_SIGNAL, words_in: 1, modes: ALL, on_wrong_count: None },
+    Service { name: "SET_SIGNAL", code: SET_SIGNAL, words_in: 2, modes: ALL, on_wrong_count: Some(&[NO_SUCH]) },
+    Service { name: "SET_CONFIG", code: SET_CONFIG, words_in: 5, modes: IDLE, on_wrong_count: None },
+    Service { name: "GET_CONFIG", code: GET_CONFIG, words_in: 2, modes: ALL, on_wrong_count: None },
+    Service { name: "SET_FUNCTION", code: SET_FUNCTION, words_in: 5, modes: IDLE_ROTATE, on_wrong_count: Some(&[NO_SUCH; 3]) },
+    Service { name: "GET_FUNCTION", code: GET_FUNCTION, words_in: 2, modes: ALL, on_wrong_count: Some(&[NO_SUCH; 3]) },
+    Service { name: "GET_PROFILE", code: GET_PROFILE, words_in: 3, modes: MEASURE, on_wrong_count: Some(&[]) },
+    Service { name: "CANCEL_PROFILE", code: CANCEL_PROFILE, words_in: 1, modes: MEASURE, on_wrong_count: None },
+    Service { name: "DO_RESET", code: DO_RESET, words_in: 2, modes: ALL, on_wrong_count: None },
+    Service { name: "TRANS_IDLE", code: TRANS_IDLE, words_in: 1, modes: ALL, on_wrong_count: None },
+    Service { name: "TRANS_ROTATE", code: TRANS_ROTATE, words_in: 2, modes: ALL, on_wrong_count: None },
+    Service { name: "TRANS_MEASURE", code: TRANS_MEASURE, words_in: 1, modes: ROTATE_MEASURE, on_wrong_count: None },
+    Service { name: "SET_ROTATE_DIRECTION", code: SET_ROTATE_DIRECTION, words_in: 2, modes: IDLE_ROTATE, on_wrong_count: None },
+    Service { name: "SET_REFLECTOR_CONFIG", code: SET_REFLECTOR_CONFIG, words_in: 3, modes: IDLE_ROTATE, on_wrong_count: None },
+    Service { name: "GET_ROTATE_DIRECTION", code: GET_ROTATE_DIRECTION, words_in: 1, modes: ALL, on_wrong_count: None },
+    Service { name: "GET_REFLECTOR_CONFIG", code: GET_REFLECTOR_CONFIG, words_in: 1, modes: ALL, on_wrong_count: None },
+    Service { name: "GET_MIXED_PROFILE", code: GET_MIXED_PROFILE, words_in: 4, modes: MEASURE, on_wrong_count: None },
+    Service { name: "CANCEL_MIXED_PROFILE", code: CANCEL_MIXED_PROFILE, words_in: 1, modes: MEASURE, on_wrong_count: None },
+    Service { name: "SAVE_PERMANENT", code: SAVE_PERMANENT, words_in: 1, modes: IDLE_ROTATE, on_wrong_count: None },
 ];
 
 pub fn service_of(code: u16) -> Option<&'static Service> {
@@ -86,14 +89,19 @@ pub fn request(state: &State, words: &[u16], buffer: &mut [u16]) -> Outcome {
     let Some(service) = service_of(words[0]) else {
         return Outcome::refused(3, state);
     };
-    if words.len() != service.words_in {
+    let wrong_count = words.len() != service.words_in;
+    if wrong_count && service.on_wrong_count.is_none() {
         return Outcome::refused(4, state);
     }
     if !service.modes.contains(&state.mode) {
         return Outcome::refused(5, state);
     }
     let mut next = *state;
-    let answer = serve(&mut next, words);
+    let answer = match service.on_wrong_count {
+        // rule 4.25: the words behind the code are not looked at
+        Some(behind_code) if wrong_count => [&[words[0] + 0x8000], behind_code].concat(),
+        _ => serve(&mut next, words),
+    };
     if buffer.len() < answer.len() {
         return Outcome::refused(6, state);
     }
