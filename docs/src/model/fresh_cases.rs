@@ -41,7 +41,7 @@ fn buffer_for(random: &mut Random, answer: usize) -> ListGiven {
 
 fn request_case(random: &mut Random) -> Vec<u16> {
     // those with the most rules more often
-    let service = &services::TABLE[random.weighted(&[2, 2, 2, 4, 2, 4, 2, 4, 3, 3, 2, 3, 6, 3, 5, 1, 2, 6, 4, 3])];
+    let service = &services::TABLE[random.weighted(&[2, 2, 4, 4, 2, 5, 4, 5, 3, 3, 2, 3, 6, 3, 5, 1, 2, 6, 4, 3])];
     let mode = if service.code == services::TRANS_MEASURE && random.percent(60) {
         Mode::Rotate
     } else if random.percent(85) {
@@ -56,7 +56,9 @@ fn request_case(random: &mut Random) -> Vec<u16> {
     };
     let state_words = random_states::state_words_maybe_damaged(random, &state);
     let mut words = random_requests::good_words(random, service);
-    match random.weighted(&[84, 8, 5, 3]) {
+    // a wrong number of words more often where it is answered
+    let wrong_counts = if service.on_wrong_count.is_some() { 32 } else { 10 };
+    match random.weighted(&[92 - wrong_counts, wrong_counts, 5, 3]) {
         0 => {}
         1 => random_requests::change_word_count(random, &mut words),
         2 => words[0] = random_requests::code_beside(random, words[0]),
@@ -233,7 +235,7 @@ fn mixed_profile_case(random: &mut Random) -> Vec<u16> {
 
 /// One fresh case.
 pub fn case(random: &mut Random) -> Vec<u16> {
-    let mut case = match random.weighted(&[400, 210, 120, 120, 110, 4, 43, 3, 110, 50, 60, 25, 45]) {
+    let mut case = match random.weighted(&[450, 210, 120, 120, 110, 4, 43, 3, 110, 50, 60, 25, 45]) {
         0 => request_case(random),
         1 => revolution_case(random),
         2 => normal_plan_case(random),

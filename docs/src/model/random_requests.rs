@@ -145,14 +145,15 @@ pub fn good_words(random: &mut Random, service: &Service) -> Vec<u16> {
     words
 }
 
-/// Takes words away or adds some.
+/// Takes words away, as many as may be but for the code, or adds some. A request that is its code alone may come out empty
+/// or as it was.
 pub fn change_word_count(random: &mut Random, words: &mut Vec<u16>) {
     match random.below(4) {
         0 => {
             words.pop();
         }
         1 => words.push(edge_word(random)),
-        2 => words.truncate(1),
+        2 => words.truncate(1 + random.below(words.len().max(2) - 1)),
         _ => {
             for _ in 0..1 + random.below(6) {
                 words.push(edge_word(random));

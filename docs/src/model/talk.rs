@@ -41,9 +41,20 @@ fn sensible_request(random: &mut Random, mode: Mode) -> Vec<u16> {
     }
 }
 
+/// A request with a wrong number of words to a service that answers it, most of the time in one of its modes.
+fn answered_wrong_count(random: &mut Random, mode: Mode) -> Vec<u16> {
+    loop {
+        let mut words = sensible_request(random, mode);
+        if services::service_of(words[0]).is_some_and(|service| service.on_wrong_count.is_some()) {
+            random_requests::change_word_count(random, &mut words);
+            return words;
+        }
+    }
+}
+
 fn wrong_request(random: &mut Random, mode: Mode) -> Vec<u16> {
     let mut words = sensible_request(random, mode);
-    match random.below(5) {
+    match random.below(8) {
         0 => words.clear(),
         1 => words[0] = random_requests::code_beside(random, words[0]),
         2 => random_requests::change_word_count(random, &mut words),
@@ -51,6 +62,7 @@ fn wrong_request(random: &mut Random, mode: Mode) -> Vec<u16> {
             let length = random.below(256);
             words.resize(length, random.word());
         }
+        4..=6 => words = answered_wrong_count(random, mode),
         _ => words = vec![random.word(); random.pick(&[1, 2, 254, 255])],
     }
     words
@@ -71,7 +83,7 @@ pub fn input(seed: u64, count: usize) -> Vec<u8> {
         } else if state.mode != Mode::Measure && random.percent(8) {
             planned = way_to_measure(&mut random);
             planned.remove(0)
-        } else if random.percent(12) {
+        } else if random.percent(18) {
             wrong_request(&mut random, state.mode)
         } else {
             sensible_request(&mut random, state.mode)
