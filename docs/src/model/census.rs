@@ -1,11 +1,11 @@
-// Counts what cases come to: refusals of each call, the parts in which words for the reader end early, served requests by
-// service and mode, profiles sent by step.
+// Counts what cases come to: refusals of each call, the parts in which words for the reader end early, served requests and
+// answers to a wrong number of words by service and mode, profiles sent by step.
 
 use crate::format;
 use crate::mask::Mask;
 use crate::mixed_reader;
 use crate::reader;
-use crate::services;
+use crate::services::{self, Service};
 use crate::state::Mode;
 use crate::trial::{self, Call};
 use std::collections::BTreeMap;
@@ -48,6 +48,7 @@ struct Counts {
     parts_of_15: BTreeMap<u16, usize>,
     mixed_parts_of_15: BTreeMap<u16, usize>,
     served: BTreeMap<(u16, usize), usize>,
+    answers_to_wrong_counts: BTreeMap<(u16, usize), usize>,
     errors_of_measure: BTreeMap<u16, usize>,
     profiles: BTreeMap<u16, usize>,
     mixed_profiles: BTreeMap<u16, usize>,
@@ -64,6 +65,19 @@ fn mode_number(mode: Mode) -> usize {
     }
 }
 
+/// A service and its counts in each mode.
+fn row_of_service(service: &Service, counts: &BTreeMap<(u16, usize), usize>) -> String {
+    let mut row = format!("{:04X} {:20}", service.code, service.name);
+    for mode in [Mode::Idle, Mode::Rotate, Mode::Measure] {
+        if service.modes.contains(&mode) {
+            row += &format!("{:8}", counts.get(&(service.code, mode_number(mode))).copied().unwrap_or(0));
+        } else {
+            row += "       -";
+        }
+    }
+    row + "\n"
+}
+
 impl Counts {
     fn refusal(&mut self, kind: usize, refusal: u16) {
         *self.refusals.entry((kind, refusal)).or_default() += 1;
@@ -77,7 +91,9 @@ impl Counts {
             Call::Request { state, words, .. } => {
                 self.refusal(1, refusal);
                 if refusal == 0 {
-                    *self.served.entry((words[0], mode_number(state.mode))).or_default() += 1;
+                    let wrong_count = services::service_of(words[0]).is_some_and(|row| row.words_in != words.len());
+                    let counts = if wrong_count { &mut self.answers_to_wrong_counts } else { &mut self.served };
+                    *counts.entry((words[0], mode_number(state.mode))).or_default() += 1;
                     if words[0] == services::TRANS_MEASURE {
                         let mut room = [0; 8];
                         services::request(&state, &words, &mut room);
@@ -144,16 +160,12 @@ impl Counts {
         text += &format!("count {count}, reflectors {reflectors}\n");
         text += "\nserved requests              IDLE  ROTATE MEASURE\n";
         for service in &services::TABLE {
-            text += &format!("{:04X} {:20}", service.code, service.name);
-            for mode in [Mode::Idle, Mode::Rotate, Mode::Measure] {
-                let number = mode_number(mode);
-                if service.modes.contains(&mode) {
-                    text += &format!("{:8}", self.served.get(&(service.code, number)).copied().unwrap_or(0));
-                } else {
-                    text += "       -";
-                }
-            }
-            text.push('\n');
+            text += &row_of_service(service, &self.served);
+        }
+        let all: usize = self.answers_to_wrong_counts.values().sum();
+        text += &format!("and {all} answers to a wrong number of words\n");
+        for service in services::TABLE.iter().filter(|service| service.on_wrong_count.is_some()) {
+            text += &row_of_service(service, &self.answers_to_wrong_counts);
         }
         text += "errors of TRANS_MEASURE";
         for error in [0, 3, 4, 1, 2] {
