@@ -34,6 +34,7 @@ mod stored_samples;
 mod stored_settings;
 mod stored_states;
 mod stored_times;
+mod stored_wrong_counts;
 mod talk;
 #[cfg(test)]
 mod tests;
@@ -41,6 +42,8 @@ mod tests;
 mod tests_mixed;
 #[cfg(test)]
 mod tests_settings;
+#[cfg(test)]
+mod tests_wrong_counts;
 mod trial;
 
 use std::io::{self, BufWriter, Read, Write};

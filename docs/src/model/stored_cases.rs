@@ -1,5 +1,5 @@
-// The fixed list of cases that is stored with its lines: all topics one after the other, then cases that try the format
-// itself.
+// The fixed list of cases that is stored with its lines: all topics one after the other, each case once, then cases that
+// try the format itself.
 
 use crate::case_parts;
 use crate::format;
@@ -12,6 +12,8 @@ use crate::stored_revolutions;
 use crate::stored_samples::{buffer, idle, plan_of};
 use crate::stored_settings;
 use crate::stored_times;
+use crate::stored_wrong_counts;
+use std::collections::BTreeSet;
 
 /// Cases that lack words or have some too many, and kinds that there are not.
 fn cases_of_the_format() -> Vec<Vec<u16>> {
@@ -45,6 +47,7 @@ pub fn input() -> Vec<u8> {
     let mut output = Vec::new();
     let topics = [
         stored_requests::cases(),
+        stored_wrong_counts::cases(),
         stored_plans::cases(),
         stored_readings::cases(),
         stored_revolutions::cases(),
@@ -54,8 +57,12 @@ pub fn input() -> Vec<u8> {
         stored_mixed_readings::cases(),
         cases_of_the_format(),
     ];
+    // where two topics have the same case, it would say nothing more in the second place
+    let mut stored = BTreeSet::new();
     for case in topics.iter().flatten() {
-        format::push_case(&mut output, case);
+        if stored.insert(case) {
+            format::push_case(&mut output, case);
+        }
     }
     // the length of a case is the remainder of its word by 8192
     for word in [8193, 6, 57345, 6] {

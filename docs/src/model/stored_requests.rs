@@ -25,8 +25,17 @@ pub fn ask_in_all(cases: &mut Cases, states: &[State], words: &[u16]) {
     }
 }
 
+/// The dialogue of a bench figure: from a fresh sensor on, each request with the state that it finds.
+pub fn ask_in_turn(cases: &mut Cases, requests: &[&[u16]]) {
+    let mut state = State::fresh();
+    for words in requests {
+        ask(cases, &state, words);
+        state = services::request(&state, words, &mut [0; ROOM]).state;
+    }
+}
+
 /// Words that are served, where the mode is listed, and that change something, where the service can.
-fn working_words(code: u16) -> Vec<u16> {
+pub fn working_words(code: u16) -> Vec<u16> {
     match code {
         SET_SIGNAL => vec![code, 0x005A],
         SET_CONFIG => vec![code, CONFIG_ITEM, 9, 19, 10],
@@ -241,7 +250,8 @@ fn measuring(cases: &mut Cases) {
     ask(cases, &measure(Job::Absent), &[TRANS_MEASURE]);
 }
 
-/// One word less, one more, only the code and six words; no word; and codes beside the table's.
+/// One word less, one more, only the code and six words, with room for every answer (stored_wrong_counts.rs has the
+/// rest); no word; and codes beside the table's.
 fn counts_and_codes(cases: &mut Cases) {
     for service in &services::TABLE {
         let mode = service.modes[service.modes.len() - 1];
@@ -306,7 +316,8 @@ fn buffers(cases: &mut Cases) {
     }
 }
 
-/// Refusals 1 to 6, alone and with each other one that can apply as well.
+/// Refusals 1 to 6, alone and with each other one that can apply as well; and GET_PROFILE's answer to a word too many, which
+/// comes behind 1 and 5, and before 6.
 fn refusals_together(cases: &mut Cases) {
     let services: [(State, State, Vec<u16>); 4] = [
         (idle(), rotate(), vec![SET_CONFIG, 0x0010, 9, 19, 10]),

@@ -62,6 +62,10 @@ pub fn measure(job: Job) -> State {
     state_in(Mode::Measure, job)
 }
 
+pub fn one_of_each_mode() -> [State; 3] {
+    [idle(), rotate(), measure(COUNTED_SAMPLE)]
+}
+
 /// One state in IDLE, one in ROTATE, and one in MEASURE for each kind of job.
 pub fn states_of_all_modes() -> Vec<State> {
     vec![idle(), rotate(), measure(Job::Absent), measure(COUNTED_SAMPLE), measure(ENDLESS_SAMPLE)]

@@ -3,9 +3,9 @@
 
 use crate::case_parts;
 use crate::format;
-use crate::services::{self, *};
+use crate::services::*;
 use crate::state::{Settings, State};
-use crate::stored_requests::{ask, ask_in_all, ROOM};
+use crate::stored_requests::{ask, ask_in_all, ask_in_turn};
 use crate::stored_revolutions::{turn_of, NEAR_WRAP};
 use crate::stored_samples::*;
 use crate::stored_states;
@@ -14,11 +14,6 @@ type Cases = Vec<Vec<u16>>;
 
 fn with_settings(states: &[State], settings: Settings) -> Vec<State> {
     states.iter().map(|state| State { settings, ..*state }).collect()
-}
-
-/// One state in each mode.
-fn one_of_each_mode() -> [State; 3] {
-    [idle(), rotate(), measure(COUNTED_SAMPLE)]
 }
 
 /// Each value at one end of its range, those that work and those that are stored at different ends.
@@ -31,7 +26,7 @@ fn settings_at_ends() -> [Settings; 4] {
     ]
 }
 
-/// Rule 7.14: each request with the state that it finds.
+/// Rule 7.14.
 fn bench_figure(cases: &mut Cases) {
     let requests: [&[u16]; 12] = [
         &[GET_ROTATE_DIRECTION],
@@ -47,11 +42,7 @@ fn bench_figure(cases: &mut Cases) {
         &[GET_REFLECTOR_CONFIG],
         &[GET_ROTATE_DIRECTION],
     ];
-    let mut state = State::fresh();
-    for words in requests {
-        ask(cases, &state, words);
-        state = services::request(&state, words, &mut [0; ROOM]).state;
-    }
+    ask_in_turn(cases, &requests);
 }
 
 fn rotate_directions(cases: &mut Cases) {

@@ -1,7 +1,7 @@
 // Holds the model to every bench figure of the rules, to the program's dialogue printed there, and to what the rules
 // say of the calls together: lengths, reading back, where cut words end, the reader's refusals in order, plans that run
-// alike. The settings of the NAV300 have tests_settings.rs,
-// mixed profiles tests_mixed.rs. Run: rustc --edition 2021 --test main.rs.
+// alike. The settings of the NAV300 have tests_settings.rs, mixed profiles tests_mixed.rs, and wrong numbers of words
+// tests_wrong_counts.rs. Run: rustc --edition 2021 --test main.rs.
 
 use crate::case_parts::{self, TurnGiven};
 use crate::cuts;
@@ -283,7 +283,7 @@ fn refusals_of_a_request_in_order() {
     assert_eq!(refusal(&bad, &[], 0), 1);
     assert_eq!(refusal(&fresh, &[], 0), 2);
     assert_eq!(refusal(&fresh, &[0x0103, 0], 0), 3);
-    assert_eq!(refusal(&fresh, &[GET_PROFILE], 0), 4);
+    assert_eq!(refusal(&fresh, &[CANCEL_PROFILE, 0], 0), 4);
     assert_eq!(refusal(&fresh, &[GET_PROFILE, 1, 0], 0), 5);
     assert_eq!(refusal(&fresh, &[GET_STATUS], 2), 6);
     // a new job writes no word, so it needs no room
@@ -828,7 +828,7 @@ fn stored_cases_are_small_enough() {
         format::push_line(&mut lines, place + 1, refusal, &words);
     }
     let size = input.len() + lines.len();
-    assert!((1_400_000..1_750_000).contains(&size), "{size} bytes");
+    assert!((1_400_000..1_820_000).contains(&size), "{size} bytes");
 }
 
 #[test]
