@@ -21,7 +21,7 @@ fn words_of(code: u16, count: usize) -> Vec<u16> {
     words
 }
 
-/// A state in which the service is there; another state than the fresh one in all its parts.
+/// A state in which the service is there.
 fn state_for(code: u16) -> State {
     if code == GET_PROFILE {
         measure(COUNTED_SAMPLE)

@@ -47,10 +47,10 @@ const REFUSING: [(u16, usize); 16] = [
     (0x1701, 1),
 ];
 
-/// One state in IDLE, one in ROTATE, and in MEASURE one without a job and one with each kind of job.
+/// The fresh state, one in IDLE, one in ROTATE, and in MEASURE one without a job and one with each kind of job.
 fn states() -> Vec<State> {
     let jobs = [Job::Absent, COUNTED_SAMPLE, ENDLESS_SAMPLE, COUNTED_MIXED_SAMPLE, ENDLESS_MIXED_SAMPLE];
-    let mut states = vec![idle(), rotate(), State::fresh()];
+    let mut states = vec![State::fresh(), idle(), rotate()];
     states.extend(jobs.map(measure));
     states
 }
