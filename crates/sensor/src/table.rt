@@ -6,6 +6,8 @@ ghost use Rattle.words.specs.Choice.{if_then_else_};
 ghost use Rattle.services.specs.Answers.{Gives};
 ghost use Rattle.sensor.specs.Table.{rowOf, response, listed, Lists};
 use crate::Miscount;
+use crate::Miscount::NoValues;
+use crate::Miscount::Refused;
 use crate::Service;
 use services::Served;
 use state::Mode;
@@ -26,27 +28,27 @@ pub(crate) fn row_of(code: u16) -> Row
     ensures { λ r. ⌜ Lists (r .0) (r .1) (r .2) (r .3) (r .4) (r .5) code ⌝ }
 {
     match code {
-        0x0102 => Row(Service::GetStatus, 1, true, true, true, Miscount::Refused),
-        0x0104 => Row(Service::GetSignal, 1, true, true, true, Miscount::Refused),
-        0x0105 => Row(Service::SetSignal, 2, true, true, true, Miscount::NoValues(1)),
-        0x0201 => Row(Service::SetConfig, 5, true, false, false, Miscount::Refused),
-        0x0202 => Row(Service::GetConfig, 2, true, true, true, Miscount::Refused),
-        0x020A => Row(Service::SetFunction, 5, true, true, false, Miscount::NoValues(3)),
-        0x020B => Row(Service::GetFunction, 2, true, true, true, Miscount::NoValues(3)),
-        0x0301 => Row(Service::GetProfile, 3, false, false, true, Miscount::NoValues(0)),
-        0x0302 => Row(Service::CancelProfile, 1, false, false, true, Miscount::Refused),
-        0x0401 => Row(Service::DoReset, 2, true, true, true, Miscount::Refused),
-        0x0402 => Row(Service::TransIdle, 1, true, true, true, Miscount::Refused),
-        0x0403 => Row(Service::TransRotate, 2, true, true, true, Miscount::Refused),
-        0x0404 => Row(Service::TransMeasure, 1, false, true, true, Miscount::Refused),
-        0x1201 => Row(Service::SetRotateDirection, 2, true, true, false, Miscount::Refused),
-        0x1202 => Row(Service::SetReflectorConfig, 3, true, true, false, Miscount::Refused),
-        0x1211 => Row(Service::GetRotateDirection, 1, true, true, true, Miscount::Refused),
-        0x1212 => Row(Service::GetReflectorConfig, 1, true, true, true, Miscount::Refused),
-        0x1301 => Row(Service::GetMixedProfile, 4, false, false, true, Miscount::Refused),
-        0x1302 => Row(Service::CancelMixedProfile, 1, false, false, true, Miscount::Refused),
-        0x1701 => Row(Service::SavePermanent, 1, true, true, false, Miscount::Refused),
-        _ => Row(Service::Unknown, 0, false, false, false, Miscount::Refused),
+        0x0102 => Row(Service::GetStatus, 1, true, true, true, Refused),
+        0x0104 => Row(Service::GetSignal, 1, true, true, true, Refused),
+        0x0105 => Row(Service::SetSignal, 2, true, true, true, NoValues(1)),
+        0x0201 => Row(Service::SetConfig, 5, true, false, false, Refused),
+        0x0202 => Row(Service::GetConfig, 2, true, true, true, Refused),
+        0x020A => Row(Service::SetFunction, 5, true, true, false, NoValues(3)),
+        0x020B => Row(Service::GetFunction, 2, true, true, true, NoValues(3)),
+        0x0301 => Row(Service::GetProfile, 3, false, false, true, NoValues(0)),
+        0x0302 => Row(Service::CancelProfile, 1, false, false, true, Refused),
+        0x0401 => Row(Service::DoReset, 2, true, true, true, Refused),
+        0x0402 => Row(Service::TransIdle, 1, true, true, true, Refused),
+        0x0403 => Row(Service::TransRotate, 2, true, true, true, Refused),
+        0x0404 => Row(Service::TransMeasure, 1, false, true, true, Refused),
+        0x1201 => Row(Service::SetRotateDirection, 2, true, true, false, Refused),
+        0x1202 => Row(Service::SetReflectorConfig, 3, true, true, false, Refused),
+        0x1211 => Row(Service::GetRotateDirection, 1, true, true, true, Refused),
+        0x1212 => Row(Service::GetReflectorConfig, 1, true, true, true, Refused),
+        0x1301 => Row(Service::GetMixedProfile, 4, false, false, true, Refused),
+        0x1302 => Row(Service::CancelMixedProfile, 1, false, false, true, Refused),
+        0x1701 => Row(Service::SavePermanent, 1, true, true, false, Refused),
+        _ => Row(Service::Unknown, 0, false, false, false, Refused),
     }
 }
 
