@@ -85,42 +85,43 @@ lawful Service.CancelMixedProfile = record { found = refl; fine = λ s r a b c d
 lawful Service.SavePermanent = record { found = refl; fine = λ s r a b c d. settings.save-fine s r }
 lawful Service.Unknown = record { found = refl; fine = λ s r a b c d. stays r s [] refl tt refl }
 
--- what holds of the answer to a wrong number of words, and of what the service does, holds of a request's outcome
-pub outcome-by : (P : Outcome → Type 0) (s : State) (ws : List ℕ)
-    → (let v = serviceOf (getD ws 0 0) in
-    P (answer s (saidOf (rowOf v .miscount) (response (rowOf v .code))))
-    → P (outcomeOf v s (getD ws 1 0) (getD ws 2 0) (getD ws 3 0) (getD ws 4 0)) → P (outcome s ws))
-unfolding outcome
-outcome-by P s ws = picked P (miscounted (serviceOf (getD ws 0 0)) (length ws)) _ _
-
 -- an answer to a wrong number of words is fine in every row: it leaves the state
 said-fine : (k : Miscount) (s : State) (code : ℕ) (changes : List Part) (Asked : Type 0) → T (leb (length (saidOf k code)) longest)
     → Fine (isRefused k) code changes Asked s (answer s (saidOf k code))
 said-fine Refused s code changes Asked few = stays code s [] refl few (same-in changes s)
 said-fine (NoValues times) s code changes Asked few = stays code s _ refl few (same-in changes s)
 
--- no word is due for a request: its number of words is wrong and refused, or right and the service gives none
-abbrev unanswered : List ℕ → Bool
-unanswered ws =
-    let v = serviceOf (getD ws 0 0) in
-    if miscounted v (length ws) then isRefused (rowOf v .miscount) else silent v (getD ws 1 0) (getD ws 2 0) (getD ws 3 0) (getD ws 4 0)
+-- a request: its service, the response code, the row's answer to a wrong number of words, and what the service does with the right one
+module _ (s : State) (ws : List ℕ) where
+  abbrev v : Service
+  v = serviceOf (getD ws 0 0)
 
--- so every outcome of a request is fine
-pub outcome-fine : (s : State) (ws : List ℕ)
-    → (let v = serviceOf (getD ws 0 0) in
-    Fine (unanswered ws) (response (rowOf v .code)) (rowOf v .changes) (Asked v s (getD ws 1 0)) s (outcome s ws))
-unfolding outcome
-outcome-fine s ws = go (miscounted v (length ws))
-  where
-    v : Service
-    v = serviceOf (getD ws 0 0)
+  abbrev code : ℕ
+  code = response (rowOf v .code)
 
-    code : ℕ
-    code = response (rowOf v .code)
+  abbrev said : Outcome
+  said = answer s (saidOf (rowOf v .miscount) code)
 
-    go : (b : Bool)
-        → Fine (if b then isRefused (rowOf v .miscount) else silent v (getD ws 1 0) (getD ws 2 0) (getD ws 3 0) (getD ws 4 0)) code
-        (rowOf v .changes) (Asked v s (getD ws 1 0)) s
-        (if b then answer s (saidOf (rowOf v .miscount) code) else outcomeOf v s (getD ws 1 0) (getD ws 2 0) (getD ws 3 0) (getD ws 4 0))
-    go true = said-fine (rowOf v .miscount) s code (rowOf v .changes) (Asked v s (getD ws 1 0)) (said-short (getD ws 0 0) code)
-    go false = lawful v .fine s code (getD ws 1 0) (getD ws 2 0) (getD ws 3 0) (getD ws 4 0)
+  abbrev done : Outcome
+  done = outcomeOf v s (getD ws 1 0) (getD ws 2 0) (getD ws 3 0) (getD ws 4 0)
+
+  -- what holds of both holds of the outcome
+  pub outcome-by : (P : Outcome → Type 0) → P said → P done → P (outcome s ws)
+  unfolding outcome
+  outcome-by P = picked P (miscounted v (length ws)) said done
+
+  -- no word is due: the number of words is wrong and refused, or right and the service gives none
+  abbrev unanswered : Bool → Bool
+  unanswered wrong = if wrong then isRefused (rowOf v .miscount) else silent v (getD ws 1 0) (getD ws 2 0) (getD ws 3 0) (getD ws 4 0)
+
+  abbrev FineSo : Bool → Outcome → Type 0
+  FineSo wrong = Fine (unanswered wrong) code (rowOf v .changes) (Asked v s (getD ws 1 0)) s
+
+  -- so every outcome of a request is fine
+  pub outcome-fine : FineSo (miscounted v (length ws)) (outcome s ws)
+  unfolding outcome
+  outcome-fine = go (miscounted v (length ws))
+    where
+      go : (wrong : Bool) → FineSo wrong (if wrong then said else done)
+      go true = said-fine (rowOf v .miscount) s code (rowOf v .changes) (Asked v s (getD ws 1 0)) (said-short (getD ws 0 0) code)
+      go false = lawful v .fine s code (getD ws 1 0) (getD ws 2 0) (getD ws 3 0) (getD ws 4 0)

@@ -43,7 +43,7 @@ left-by : (w : Service) (s : State) → ((a b c d : ℕ) → outcomeOf w s a b c
     → getD ws 0 0 ≡ rowOf w .code → requestOf s ws room .reply .state ≡ s
 left-by w s h ws room e =
     requested-by (λ x. x .reply .state ≡ s) s ws room (λ _. refl)
-    (λ _. outcome-by (λ o. o .after ≡ s) s ws refl (rw (ap serviceOf e ∙ lawful w .found) (h _ _ _ _)))
+    (λ _. outcome-by s ws (λ o. o .after ≡ s) refl (rw (ap serviceOf e ∙ lawful w .found) (h _ _ _ _)))
 
 module _ (s : State) (ws : List ℕ) (room : ℕ) where
   pub mixed-left : T (hasKind Kind.Mixed (s .job)) → getD ws 0 0 ≡ rowOf Service.CancelProfile .code → requestOf s ws room .reply .state ≡ s

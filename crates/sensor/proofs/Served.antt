@@ -126,7 +126,7 @@ request-no : (w : Service) (words : List ℕ) → SaysNoBy w words → (s : Stat
     → requestOf s ws room .written ≡ response (rowOf w .code) ∷ words → requestOf s ws room .reply .state ≡ s
 request-no w words h s ws room =
     requested-by (λ x. x .written ≡ response (rowOf w .code) ∷ words → x .reply .state ≡ s) s ws room (λ _ _. refl)
-    (λ _. outcome-by (λ o. o .words ≡ response (rowOf w .code) ∷ words → o .after ≡ s) s ws (λ _. refl)
+    (λ _. outcome-by s ws (λ o. o .words ≡ response (rowOf w .code) ∷ words → o .after ≡ s) (λ _. refl)
     (said-no-by w words h s (serviceOf (getD ws 0 0)) _ _ _ _))
 
 pub only-these : OnlyThese

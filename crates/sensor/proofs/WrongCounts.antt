@@ -25,16 +25,6 @@ pub code-laid : (code : ℕ) → set (replicate longest 0) 0 code ≡ laid code 
 unfolding laid over
 code-laid code = refl
 
-module _ (words : List ℕ) (code i times : ℕ) (e : words ≡ laid code i) (few : times < longest) where
-  pub one-more : i < times → set words (i + 1) noValue ≡ laid code (i + 1)
-  unfolding laid
-  one-more h =
-      let long : length (code ∷ replicate i noValue) ≡ i + 1 = simp length-replicate (omega arith) in
-      let room : length (code ∷ replicate i noValue) < length {A = ℕ} (replicate longest 0) = simp length-replicate (omega arith) in
-      rw (e, ← long)
-      (over-next (code ∷ replicate i noValue) (replicate longest 0) noValue room)
-      ∙ ap (λ (l : List ℕ). over (code ∷ l) (replicate longest 0)) (replicate-append-replicate i 1 noValue)
-
 -- zeros behind words are those of a list of zeros, or as many as fill it up
 zeros : (n m : ℕ) → n ≤ m → take {A = ℕ} n (replicate m 0) ≡ replicate n 0
 zeros zero m h = refl
@@ -47,6 +37,14 @@ filled-up (w ∷ ws) zero m h k = absurd (omega arith)
 filled-up (w ∷ ws) (suc n) m h k = ap (λ (l : List ℕ). w ∷ l) (filled-up ws n m (omega arith) (omega arith))
 
 module _ (words : List ℕ) (code i times : ℕ) (e : words ≡ laid code i) (few : times < longest) where
+  pub one-more : i < times → set words (i + 1) noValue ≡ laid code (i + 1)
+  unfolding laid
+  one-more h =
+      let long : length (code ∷ replicate i noValue) ≡ i + 1 = simp length-replicate (omega arith) in
+      let room : length (code ∷ replicate i noValue) < length {A = ℕ} (replicate longest 0) = simp length-replicate (omega arith) in
+      rw (e, ← long) (over-next (code ∷ replicate i noValue) (replicate longest 0) noValue room)
+      ∙ ap (λ (l : List ℕ). over (code ∷ l) (replicate longest 0)) (replicate-append-replicate i 1 noValue)
+
   pub all-laid : i ≤ times → times ≤ i → (s : State)
       → Gives (record { state = s; words = words; count = times + 1 }) (answer s (code ∷ replicate times noValue))
   unfolding laid over
