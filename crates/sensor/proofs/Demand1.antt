@@ -86,7 +86,7 @@ no-word : (ws : List ℕ) → eqb (length ws) 0 ≡ not (some ws)
 no-word [] = refl
 no-word (w ∷ ws) = ne-eqb (suc (length ws)) 0 (λ e. omega arith)
 
-code-listed : (code : ℕ) → not (isListed (serviceOf code)) ≡ every (λ v. not (eqb code (rowOf v .code))) services
+pub code-listed : (code : ℕ) → not (isListed (serviceOf code)) ≡ every (λ v. not (eqb code (rowOf v .code))) services
 unfolding serviceOf
 code-listed code = listed code services tt
 
