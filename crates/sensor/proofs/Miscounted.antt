@@ -21,7 +21,7 @@ use Rattle.sensor.specs.Table.{rowOf, response, services, serviceOf, all
 use Rattle.sensor.specs.Requests.{serviceRefusal, requestRefusal, outcome, requestOf}
 use Rattle.sensor.specs.Demands.{asksNone}
 use Rattle.sensor.specs.WrongCounts.{answering, isWrongCount, NeverFour, FourExactly}
-use Rattle.sensor.specs.WrongCounts.{WrongCountsLeave, Answers, WrongCountsSaid, WordsUnread}
+use Rattle.sensor.specs.WrongCounts.{WrongCountsLeave, AnswersWith, WrongCountsSaid, WordsUnread}
 use Rattle.sensor.proofs.Codes.{Has, service-has, found-by}
 use Rattle.sensor.proofs.Lawful.{lawful}
 use Rattle.sensor.proofs.Demand1.{requested-by, code-listed, refusals-exactly}
@@ -51,7 +51,7 @@ words-unread s code xs ys room h k = wrong-count s code xs room h ∙ sym (wrong
 
 -- a service that does not refuse it answers it in its modes
 said-by : (v : Service) → T (isListed v) → isRefused (rowOf v .miscount) ≡ false
-    → Answers v (saidOf (rowOf v .miscount) (response (rowOf v .code)))
+    → AnswersWith v (saidOf (rowOf v .miscount) (response (rowOf v .code)))
 said-by v l r s rest room i h =
     wrong-count s (rowOf v .code) rest room h
     ∙ rw (lawful v .found, in-range, there, r) (go (allowed v (s .mode)))

@@ -41,16 +41,16 @@ WrongCountsLeave = (s : State) (ws : List ℕ) (room : ℕ) → T (isWrongCount 
 
 -- a service's answer to it, of a state in its ranges: 5 before it, where the mode is not listed, and 6 behind it, where there is no room
 -- for it (rules 4.25 and 6.1)
-abbrev pub Answers : Service → List ℕ → Type 0
-Answers v words =
+abbrev pub AnswersWith : Service → List ℕ → Type 0
+AnswersWith v words =
     (s : State) (rest : List ℕ) (room : ℕ) → T (inRange s) → T (isWrongCount (rowOf v .code ∷ rest))
     → requestOf s (rowOf v .code ∷ rest) room ≡ (if allowed v (s .mode) then delivered s (answer s words) room else refused s 5)
 
 pub record WrongCountsSaid : Type 0 where
-  pub set-signal : Answers Service.SetSignal (0x8105 ∷ 0xFFFF ∷ [])
-  pub set-function : Answers Service.SetFunction (0x820A ∷ 0xFFFF ∷ 0xFFFF ∷ 0xFFFF ∷ [])
-  pub get-function : Answers Service.GetFunction (0x820B ∷ 0xFFFF ∷ 0xFFFF ∷ 0xFFFF ∷ [])
-  pub get-profile : Answers Service.GetProfile (0x8301 ∷ [])
+  pub set-signal : AnswersWith Service.SetSignal (0x8105 ∷ 0xFFFF ∷ [])
+  pub set-function : AnswersWith Service.SetFunction (0x820A ∷ 0xFFFF ∷ 0xFFFF ∷ 0xFFFF ∷ [])
+  pub get-function : AnswersWith Service.GetFunction (0x820B ∷ 0xFFFF ∷ 0xFFFF ∷ 0xFFFF ∷ [])
+  pub get-profile : AnswersWith Service.GetProfile (0x8301 ∷ [])
 
 -- the words behind the code are not looked at: two requests with one code, each with a wrong number, get the same (rule 4.25)
 abbrev pub WordsUnread : Type 0
