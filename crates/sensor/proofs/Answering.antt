@@ -19,7 +19,7 @@ use Rattle.sensor.specs.Table.{rowOf, response, serviceOf, outcomeOf, sa
 use Rattle.sensor.specs.Requests.{requestRefusal, outcome, requestOf}
 use Rattle.sensor.proofs.Codes.{Has, service-has, response-is}
 
--- `service_of`: an arm is the code's service
+-- `row_of`: an arm is the code's service
 pub code-is : (code k : ℕ) (v : Service) → code ≡ k → v ≡ serviceOf k → v ≡ serviceOf code
 code-is code k v e q = rw e q
 

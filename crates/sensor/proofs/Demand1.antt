@@ -21,7 +21,7 @@ use Rattle.state.specs.Replies.{Result, refused, delivered, Answered, Unchanged
 use Rattle.state.proofs.Delivery.{refused-unchanged, done, delivered-by, delivered-number, delivered-room}
 use Rattle.state.proofs.Parts.{parts, whole}
 use Rattle.sensor.specs.declared.Service.{Service}
-use Rattle.sensor.specs.Table.{rowOf, services, named, serviceOf, allowed, isListed, miscounted, isRefused}
+use Rattle.sensor.specs.Table.{rowOf, services, named, serviceOf, allowed, isListed, countRefused}
 use Rattle.sensor.specs.Requests.{serviceRefusal, requestRefusal, outcome, requestOf}
 use Rattle.sensor.specs.Demands.{RefusalsChangeNothing, RefusalsExactly, RoomForAll, RangesKept}
 use Rattle.sensor.proofs.Lawful.{outcome-fine}
@@ -109,7 +109,7 @@ module _ (s : State) (ws : List ℕ) where
       ≡ (if not (inRange s) then 1
       else if not (some ws) then 2
       else if every (λ v. not (eqb (getD ws 0 0) (rowOf v .code))) services then 3
-      else if miscounted (serviceOf (getD ws 0 0)) (length ws) && isRefused (rowOf (serviceOf (getD ws 0 0)) .miscount) then 4
+      else if countRefused (serviceOf (getD ws 0 0)) (length ws) then 4
       else if not (allowed (serviceOf (getD ws 0 0)) (s .mode)) then 5 else 0)
   unfolding requestRefusal serviceRefusal
   refusal-is = rw (no-word ws, code-listed (getD ws 0 0))
@@ -130,8 +130,8 @@ refusals-exactly s ws room =
     number-is s ws room ∙
     rw (refusal-is s ws)
     (in-order (not (inRange s)) (not (some ws)) (every (λ v. not (eqb (getD ws 0 0) (rowOf v .code))) services)
-    (miscounted (serviceOf (getD ws 0 0)) (length ws) && isRefused (rowOf (serviceOf (getD ws 0 0)) .miscount))
-    (not (allowed (serviceOf (getD ws 0 0)) (s .mode))) (ltb room (length (outcome s ws .words))))
+    (countRefused (serviceOf (getD ws 0 0)) (length ws)) (not (allowed (serviceOf (getD ws 0 0)) (s .mode)))
+    (ltb room (length (outcome s ws .words))))
 
 -- a request that none of 1 to 5 refuses finds a state in its ranges, and a mode that is listed
 passes : (a b c d e : Bool)
@@ -147,7 +147,7 @@ pub served-so : (s : State) (ws : List ℕ) → requestRefusal s ws ≡ 0 → T 
 unfolding requestRefusal serviceRefusal
 served-so s ws e =
     let v = serviceOf (getD ws 0 0) in
-    passes (inRange s) (eqb (length ws) 0) (isListed v) (miscounted v (length ws) && isRefused (rowOf v .miscount)) (allowed v (s .mode)) e
+    passes (inRange s) (eqb (length ws) 0) (isListed v) (countRefused v (length ws)) (allowed v (s .mode)) e
 
 word-fits : (ws : List ℕ) (i : ℕ) → T (areWords ws) → getD ws i 0 ≤ 65535
 word-fits [] i h = omega arith
@@ -176,8 +176,7 @@ below : (s : State) (ws : List ℕ) → requestRefusal s ws ≤ 5
 unfolding requestRefusal serviceRefusal
 below s ws =
     let v = serviceOf (getD ws 0 0) in
-    at-most (not (inRange s)) (eqb (length ws) 0) (not (isListed v)) (miscounted v (length ws) && isRefused (rowOf v .miscount))
-    (not (allowed v (s .mode)))
+    at-most (not (inRange s)) (eqb (length ws) 0) (not (isListed v)) (countRefused v (length ws)) (not (allowed v (s .mode)))
 
 pub room-for-all : RoomForAll
 room-for-all s ws room h q =

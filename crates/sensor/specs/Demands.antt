@@ -2,7 +2,7 @@
 -- proofs/SettingsKept.antt.
 use mathlib.Core.Path.{_≡_}
 use mathlib.Core.Logic.{_↔_}
-use mathlib.Core.Bool.{Bool, not, _&&_, _||_}
+use mathlib.Core.Bool.{Bool, not, _||_}
 use mathlib.Core.List.{List, [], _∷_}
 use Prim.Native.Nat.{ℕ, _≤_}
 use lib.Dec.{T, ltb, eqb}
@@ -18,7 +18,7 @@ use Rattle.state.specs.Replies.{Unchanged}
 use Rattle.services.specs.Answers.{longest, noValue}
 use Rattle.services.specs.Nav300.{badValue}
 use Rattle.sensor.specs.declared.Service.{Service}
-use Rattle.sensor.specs.Table.{rowOf, response, services, serviceOf, allowed, outcomeOf, isListed, silent, miscounted, isRefused}
+use Rattle.sensor.specs.Table.{rowOf, response, services, serviceOf, allowed, outcomeOf, isListed, silent, countRefused}
 use Rattle.sensor.specs.Requests.{outcome, requestOf}
 
 -- Demand 1: a refusal leaves buffer and state as they were, and counts no word (rule 6.2)
@@ -38,7 +38,7 @@ numbersForNo s ws room =
     no 1 (not (inRange s))
     ∷ no 2 (not (some ws))
     ∷ no 3 (asksNone ws services)
-    ∷ no 4 (miscounted (serviceOf (getD ws 0 0)) (length ws) && isRefused (rowOf (serviceOf (getD ws 0 0)) .miscount))
+    ∷ no 4 (countRefused (serviceOf (getD ws 0 0)) (length ws))
     ∷ no 5 (not (allowed (serviceOf (getD ws 0 0)) (s .mode)))
     ∷ no 6 (ltb room (length (outcome s ws .words)))
     ∷ []

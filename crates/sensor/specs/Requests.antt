@@ -1,5 +1,5 @@
 -- Rules, section 6: a request, its refusals 1 to 6 in order, and what it hands back.
-use mathlib.Core.Bool.{not, _&&_}
+use mathlib.Core.Bool.{not}
 use mathlib.Core.List.{List}
 use Prim.Native.Nat.{ℕ}
 use lib.Dec.{eqb}
@@ -12,13 +12,13 @@ use Rattle.state.specs.declared.Reply.{Reply}
 use Rattle.state.specs.Replies.{Outcome, Result, refused, delivered, Answered}
 use Rattle.services.specs.Answers.{answer}
 use Rattle.sensor.specs.declared.Service.{Service}
-use Rattle.sensor.specs.Table.{rowOf, response, serviceOf, allowed, outcomeOf, isListed, miscounted, isRefused, saidOf}
+use Rattle.sensor.specs.Table.{rowOf, response, serviceOf, allowed, outcomeOf, isListed, miscounted, countRefused, saidOf}
 
 -- 3 where no row has the code, 4 where it asks for more or fewer words and refuses these, 5 where it does not name the mode (rule 6.1)
 unfoldable pub serviceRefusal : Service → ℕ → Mode → ℕ
 serviceRefusal v count mode =
     if not (isListed v) then 3 else
-    if miscounted v count && isRefused (rowOf v .miscount) then 4 else
+    if countRefused v count then 4 else
     if not (allowed v mode) then 5 else 0
 
 -- 1 where a field of the state is out of its range, 2 where nothing is asked, then 3 to 5; 0 for none (rule 6.1)

@@ -131,10 +131,14 @@ isListed v = not (eqb (rowOf v .wordsIn) 0)
 abbrev pub miscounted : Service → ℕ → Bool
 miscounted v count = not (eqb count (rowOf v .wordsIn))
 
--- that is refused (rule 4.25)
+-- what becomes of that is a refusal (rule 4.25)
 abbrev pub isRefused : Miscount → Bool
 isRefused Refused = true
 isRefused (NoValues times) = false
+
+-- the number of words is wrong, and that is refused (rules 4.25 and 6.1)
+abbrev pub countRefused : Service → ℕ → Bool
+countRefused v count = miscounted v count && isRefused (rowOf v .miscount)
 
 -- or it is answered, given the response code: with that, then no value so many times; what is refused has no word (rule 4.25)
 abbrev pub saidOf : Miscount → ℕ → List ℕ
