@@ -24,6 +24,8 @@ APART = {
     "is-refused": "is_refused_lem",
     "line-at": "line_at_lem",
     "mask-of": "mask_of_lem",
+    "mixed-head": "mixed_head_lem",
+    "mixed-length": "mixed_length_lem",
     "no-mixed-mask": "no_mixed_mask_lem",
     "oneMore": "one_more_of",
     "said-of": "said_of_lem",
@@ -31,6 +33,8 @@ APART = {
     "sectors-ok": "sectors_ok_lem",
     "sent-length": "sent_length_lem",
     "settings-of": "settings_of_lem",
+    "with-left": "with_left_lem",
+    "with-settings": "with_settings_lem",
 }
 # and where only one file has both
 APART_IN = {("crates/sensor/proofs/Miscounted.antt", "in-range"): "in_range_lem"}
@@ -60,22 +64,25 @@ def declared():
     """each name that a file of specs/ or proofs/ declares, with those files"""
     found = defaultdict(set)
     for path in files(".antt"):
-        inside = False
         for line in read(path).split("\n"):
-            if re.match(r"^(abbrev |unfoldable |pub )*(record|data) ", line):
-                inside = True
-            elif line and not line[0].isspace() and not line.startswith("--"):
-                inside = False
             m = DECLARED.match(line)
-            if m and (not m.group(1) or inside) and not line.lstrip().startswith(("--", "use ", "import ")):
+            if m and not line.lstrip().startswith(("--", "use ", "import ")):
                 found[m.group(3)].add(path)
     return found
 
 
+def of_libraries():
+    """names that some file imports from a library keep their spelling everywhere"""
+    own = "|".join(sorted(os.listdir(os.path.join(TOP, "crates"))))
+    lines = re.compile(r"use (?!Rattle\.(?:%s)\.)[\w.·]+\.\{([^}]*)\}" % own)
+    return {item.strip() for path in files(".antt", ".rt") for m in lines.finditer(read(path)) for item in m.group(1).split(",")}
+
+
 def table():
     names = {}
+    kept = of_libraries()
     for name in declared():
-        if not re.match(r"^[a-z][\w'-]*$", name) or MADE.match(name):
+        if not re.match(r"^[a-z][\w'-]*$", name) or MADE.match(name) or name in kept:
             continue
         new = APART.get(name, snake(name))
         if new != name:
@@ -109,12 +116,6 @@ def look(names):
             hits = [l.strip() for l in code.split("\n") if re.search(r"(?<![\w'·.-])" + re.escape(new) + r"(?![\w'-])", l)]
             if hits:
                 print("in one file:", os.path.relpath(path, TOP), old, "->", new, "|", hits[0][:110])
-    kept = re.compile(r"use (?!Rattle\.(?:%s)\.)[\w.·]+\.\{([^}]*)\}" % "|".join(os.listdir(os.path.join(TOP, "crates"))))
-    for path in files(".antt", ".rt"):
-        for m in kept.finditer(read(path)):
-            for item in m.group(1).split(","):
-                if item.strip() in names:
-                    print("of a library:", os.path.relpath(path, TOP), m.group(0)[:60], item.strip())
 
 
 def main():

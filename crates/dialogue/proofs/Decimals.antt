@@ -8,7 +8,7 @@ use lib.ListN.{length, get_or, take, drop, set, length-drop, length-set, drop_of
 use lib.Seq.{drop-cons, drop-drop, drop-set-lt, get_or-drop, get_or-set_same}
 use borrow.Author.Tests.{eq-eqb, ne_eqb}
 use Rattle.words.specs.Buffers.{Put}
-use Rattle.words.proofs.Puts.{list-fits, list_put, list_all}
+use Rattle.words.proofs.Puts.{list_fits, list_put, list_all}
 use Rattle.dialogue.specs.Lines.{glyph, digits, stripped, decimal}
 
 -- `twenty`: the digits still to come stand in front of those in the array
@@ -27,9 +27,9 @@ module _ (text whole : List ℕ) (i rest : ℕ) (inv : digits 10 i rest ++ drop 
       drop-cons (set text j g) j 0 (rw length-set l) ∙ rw (get_or-set_same text j g 0 l, drop-set-lt (suc j) text j g (omega arith)) in
       rw (front, e) (rw (s, append_assoc) at inv)
 
-  pub digits-done : i ≤ 0 → text ≡ whole
+  pub digits_done : i ≤ 0 → text ≡ whole
   unfolding digits
-  digits-done h =
+  digits_done h =
       let z : i ≡ 0 = omega arith in
       rw z at inv
 
@@ -56,39 +56,39 @@ module _ (text : List ℕ) (i : ℕ) (len : length text ≡ 20) (inv : stripped 
   at_front : get_or (drop i text) 0 0 ≡ get_or text i 0
   at_front = rw (get_or-drop, add-zero)
 
-  pub zero-passed : i < 19 → get_or text i 0 ≡ 48 → stripped (drop (i + 1) text) ≡ stripped text
-  zero-passed h e = rw drop-drop at (strip_zero (drop i text) (rw length-drop (omega arith)) (at_front ∙ e)) ∙ inv
+  pub zero_passed : i < 19 → get_or text i 0 ≡ 48 → stripped (drop (i + 1) text) ≡ stripped text
+  zero_passed h e = rw drop-drop at (strip_zero (drop i text) (rw length-drop (omega arith)) (at_front ∙ e)) ∙ inv
 
   stops : i ≤ 20 → stripped (drop i text) ≡ drop i text → (i + length (stripped text) ≡ 20) × (drop i text ≡ stripped text)
   stops h e =
       let same : drop i text ≡ stripped text = sym e ∙ inv in
       (rw (← same, length-drop) (omega arith), same)
 
-  pub digit-met : i < 19 → (get_or text i 0 ≡ 48 → ⊥) → (i + length (stripped text) ≡ 20) × (drop i text ≡ stripped text)
-  digit-met h n = stops (omega arith) (strip_digit (drop i text) (λ e. n (sym at_front ∙ e)))
+  pub digit_met : i < 19 → (get_or text i 0 ≡ 48 → ⊥) → (i + length (stripped text) ≡ 20) × (drop i text ≡ stripped text)
+  digit_met h n = stops (omega arith) (strip_digit (drop i text) (λ e. n (sym at_front ∙ e)))
 
-  pub last-met : i ≤ 19 → 19 ≤ i → (i + length (stripped text) ≡ 20) × (drop i text ≡ stripped text)
-  last-met h k = stops (omega arith) (strip_last (drop i text) (rw length-drop (omega arith)))
+  pub last_met : i ≤ 19 → 19 ≤ i → (i + length (stripped text) ≡ 20) × (drop i text ≡ stripped text)
+  last_met h k = stops (omega arith) (strip_last (drop i text) (rw length-drop (omega arith)))
 
 -- `width` and `put_decimal`
 module _ (text : List ℕ) (n first : ℕ) (e : text ≡ digits 10 20 n)
     (lead : (first + length (stripped text) ≡ 20) × (drop first text ≡ stripped text)) where
-  is-decimal : drop first text ≡ decimal n
+  is_decimal : drop first text ≡ decimal n
   unfolding decimal
-  is-decimal = lead.1 ∙ ap stripped e
+  is_decimal = lead.1 ∙ ap stripped e
 
-  pub so-wide : 20 - first ≡ length (decimal n)
-  so-wide =
-      let same : length (stripped text) ≡ length (decimal n) = ap length (sym lead.1 ∙ is-decimal) in
+  pub so_wide : 20 - first ≡ length (decimal n)
+  so_wide =
+      let same : length (stripped text) ≡ length (decimal n) = ap length (sym lead.1 ∙ is_decimal) in
       omega (arith, lead.0)
 
   module _ {d₀ d : List ℕ} {at k to : ℕ} (all : at + length (decimal n) ≤ length d₀) (so_far : Put (take k (decimal n)) d₀ at d to) where
-    pub digit-fits : k < 20 - first → to < length d
-    digit-fits h = list-fits (decimal n) k all so_far (omega (arith, so-wide))
+    pub digit_fits : k < 20 - first → to < length d
+    digit_fits h = list_fits (decimal n) k all so_far (omega (arith, so_wide))
 
-    pub digit-put : k < 20 - first → {d' : List ℕ} {r : ℕ} → Put (get_or text (first + k) 0 ∷ []) d to d' r
+    pub digit_put : k < 20 - first → {d' : List ℕ} {r : ℕ} → Put (get_or text (first + k) 0 ∷ []) d to d' r
         → Put (take (k + 1) (decimal n)) d₀ at d' r
-    digit-put h p = list_put (decimal n) k all so_far (omega (arith, so-wide)) (rw (← get_or-drop, is-decimal) at p)
+    digit_put h p = list_put (decimal n) k all so_far (omega (arith, so_wide)) (rw (← get_or-drop, is_decimal) at p)
 
-    pub digits-put : 20 - first ≤ k → Put (decimal n) d₀ at d to
-    digits-put h = list_all (decimal n) k all so_far (omega (arith, so-wide))
+    pub digits_put : 20 - first ≤ k → Put (decimal n) d₀ at d to
+    digits_put h = list_all (decimal n) k all so_far (omega (arith, so_wide))

@@ -9,7 +9,7 @@ use lib.ListN.{length, get_or, length-append}
 use borrow.Author.Tests.{leb-true, le-leb, lt-leb}
 use Rattle.words.specs.Buffers.{Wrote, Put}
 use Rattle.words.proofs.Tests.{said_no, said_yes}
-use Rattle.words.proofs.Puts.{none_yet, room, and-put, put_first, put_then, turn-fits, turns_long}
+use Rattle.words.proofs.Puts.{none_yet, room, and_put, put_first, put_then, turn_fits, turns_long}
 use Rattle.dialogue.specs.Lines.{glyph, digits, decimal, spaced_hex, hexes, line_of, fitting}
 
 -- `put_hex`
@@ -33,7 +33,7 @@ hex_long w = refl
 pub hex_fits : (words d₀ d : List ℕ) (at k to : ℕ) → at + length (hexes words (length words)) ≤ length d₀
     → Put (hexes words k) d₀ at d to → k < length words → to + 5 ≤ length d
 hex_fits words d₀ d at k to all so_far h =
-    rw hex_long at (turn-fits (λ i. spaced_hex (get_or words i 0)) (length words) all so_far h)
+    rw hex_long at (turn_fits (λ i. spaced_hex (get_or words i 0)) (length words) all so_far h)
 
 -- `put_spaced`
 pub spaced_put : {w : ℕ} {ws d₀ d₁ d₂ : List ℕ} {at r₁ r₂ : ℕ}
@@ -80,25 +80,25 @@ module _ (nr refusal : ℕ) (ws : List ℕ) where
       number_fits = omega (arith, long)
 
       module _ {d₁ : List ℕ} {r₁ : ℕ} (p₁ : Put (decimal nr) d₀ 0 d₁ r₁) where
-        pub refusal-fits : r₁ + length (32 ∷ decimal refusal) ≤ length d₁
-        refusal-fits = room (put_first p₁) (32 ∷ decimal refusal) (omega (arith, long))
+        pub refusal_fits : r₁ + length (32 ∷ decimal refusal) ≤ length d₁
+        refusal_fits = room (put_first p₁) (32 ∷ decimal refusal) (omega (arith, long))
 
         module _ {d₂ : List ℕ} {r₂ : ℕ} (p₂ : Put (32 ∷ decimal refusal) d₁ r₁ d₂ r₂) where
           pub count_fits : r₂ + length (32 ∷ decimal (length ws)) ≤ length d₂
-          count_fits = room (and-put (put_first p₁) p₂) (32 ∷ decimal (length ws)) (rw length-append (omega (arith, long)))
+          count_fits = room (and_put (put_first p₁) p₂) (32 ∷ decimal (length ws)) (rw length-append (omega (arith, long)))
 
           module _ {d₃ : List ℕ} {r₃ : ℕ} (p₃ : Put (32 ∷ decimal (length ws)) d₂ r₂ d₃ r₃) where
             counted : Wrote (decimal nr ++ (32 ∷ decimal refusal) ++ (32 ∷ decimal (length ws))) d₀ d₃ r₃
-            counted = and-put (and-put (put_first p₁) p₂) p₃
+            counted = and_put (and_put (put_first p₁) p₂) p₃
 
-            pub words-fit : r₃ + length (hexes ws (length ws)) ≤ length d₃
-            words-fit = room counted (hexes ws (length ws)) (simp (length-append, words_long) (omega (arith, long)))
+            pub words_fit : r₃ + length (hexes ws (length ws)) ≤ length d₃
+            words_fit = room counted (hexes ws (length ws)) (simp (length-append, words_long) (omega (arith, long)))
 
             module _ {d₄ : List ℕ} {r₄ : ℕ} (p₄ : Put (hexes ws (length ws)) d₃ r₃ d₄ r₄) where
               pub end_fits : r₄ < length d₄
-              end_fits = omega (arith, room (and-put counted p₄) (10 ∷ []) (simp (length-append, words_long) (omega (arith, long))))
+              end_fits = omega (arith, room (and_put counted p₄) (10 ∷ []) (simp (length-append, words_long) (omega (arith, long))))
 
-              pub line-put : {d₅ : List ℕ} {r₅ : ℕ} → Put (10 ∷ []) d₄ r₄ d₅ r₅
+              pub line_put : {d₅ : List ℕ} {r₅ : ℕ} → Put (10 ∷ []) d₄ r₄ d₅ r₅
                   → Wrote (fitting (line_of nr refusal ws) (length d₀)) d₀ d₅ r₅
               unfolding fitting line_of
-              line-put p₅ = rw (said_yes e q) (and-put (and-put counted p₄) p₅)
+              line_put p₅ = rw (said_yes e q) (and_put (and_put counted p₄) p₅)

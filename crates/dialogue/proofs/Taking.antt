@@ -9,7 +9,7 @@ use lib.Seq.{get_or-drop}
 use borrow.Author.Tests.{le-leb, lt-leb}
 use Rattle.words.specs.Buffers.{Put, over, in_turn}
 use Rattle.words.proofs.Overs.{over_none}
-use Rattle.words.proofs.Puts.{put_first, put_one, turn-put, turns-all, turns_long}
+use Rattle.words.proofs.Puts.{put_first, put_one, turn_put, turns_all, turns_long}
 use Rattle.dialogue.specs.declared.Record.TheVariants.{End, Cut, Whole}
 use Rattle.dialogue.specs.Records.{record_word, record_of, record_words, TakeRecordSays}
 
@@ -19,15 +19,15 @@ module _ (bytes words₀ words : List ℕ) (k n : ℕ) (room : n ≤ length word
   fits : 0 + length (in_turn (record_word (drop 1 bytes)) n) ≤ length words₀
   fits = rw (turns_long (record_word (drop 1 bytes)) 1 (λ i. refl), mul-one) (omega arith)
 
-  pub word-taken : k < n → length words ≡ length words₀ → (w : ℕ) → w ≡ get_or bytes (2 * k + 1) 0 * 256 + get_or bytes (2 * k + 2) 0
+  pub word_taken : k < n → length words ≡ length words₀ → (w : ℕ) → w ≡ get_or bytes (2 * k + 1) 0 * 256 + get_or bytes (2 * k + 2) 0
       → Put (in_turn (record_word (drop 1 bytes)) (k + 1)) words₀ 0 (set words k w) (k + 1)
-  word-taken h same w e =
+  word_taken h same w e =
       let byte : (i : ℕ) → get_or (drop 1 bytes) i 0 ≡ get_or bytes (i + 1) 0 = λ i. get_or-drop 1 bytes i 0 ∙ rw (add_comm 1 i) in
       let low : get_or (drop 1 bytes) (2 * k + 1) 0 ≡ get_or bytes (2 * k + 2) 0 = byte (2 * k + 1) ∙ rw add_assoc in
-      turn-put (record_word (drop 1 bytes)) n fits so_far (rw (byte (2 * k), low, ← e) (put_one words k w (omega arith)))
+      turn_put (record_word (drop 1 bytes)) n fits so_far (rw (byte (2 * k), low, ← e) (put_one words k w (omega arith)))
 
-  pub words-taken : k ≤ n → n ≤ k → words ≡ over (in_turn (record_word (drop 1 bytes)) n) words₀
-  words-taken h l = (put_first (turns-all (record_word (drop 1 bytes)) n fits so_far h l)).words
+  pub words_taken : k ≤ n → n ≤ k → words ≡ over (in_turn (record_word (drop 1 bytes)) n) words₀
+  words_taken h l = (put_first (turns_all (record_word (drop 1 bytes)) n fits so_far h l)).words
 
 -- `take_record`
 pub no_record : (bytes words : List ℕ) → length bytes ≡ 0 → TakeRecordSays End bytes words words

@@ -16,7 +16,7 @@ use Rattle.state.specs.declared.Reply.{Reply}
 use Rattle.state.specs.Replies.{Answered}
 use Rattle.services.specs.Answers.{longest}
 use Rattle.sensor.specs.Requests.{request_of}
-use Rattle.sensor.proofs.Demand1.{answer-words}
+use Rattle.sensor.proofs.Demand1.{answer_words}
 use Rattle.dialogue.specs.declared.Said.{Said}
 use Rattle.dialogue.specs.Lines.{line_of, fitting}
 use Rattle.dialogue.specs.declared.Record.{Record}
@@ -44,11 +44,11 @@ unfolding line_for
 replied s number ws before after r d d' long a answer ea n w =
     record {
       state = rw (a.reply, long);
-      text = rw line-is at w;
+      text = rw line_is at w;
     }
   where
-    line-is : line_of number r.refusal answer ≡ line_for s number ws
-    line-is = rw (ea, answer-words r d d' s ws a, a.reply, long)
+    line_is : line_of number r.refusal answer ≡ line_for s number ws
+    line_is = rw (ea, answer_words r d d' s ws a, a.reply, long)
 
 -- the line of the record at the front, by what the record is
 line_at_lem : (s : State) (number : ℕ) (bytes : List ℕ) (room : ℕ) (r : Record) → r ≡ record_of bytes
@@ -62,11 +62,11 @@ module _ (r : Record) (bytes w w' : List ℕ) (t : TakeRecordSays r bytes w w')
   many : length (record_words bytes) ≡ n
   many = words_long bytes m (rw whole at t.is) ∙ sym same
 
-  pub words-within : n ≤ length w'
-  words-within = rw (t.words, over_length (record_words bytes) w (omega (arith, many))) (omega arith)
+  pub words_within : n ≤ length w'
+  words_within = rw (t.words, over_length (record_words bytes) w (omega (arith, many))) (omega arith)
 
-  pub words-lent : n ≡ length (take n w')
-  words-lent = sym (length-take-le n w' words-within)
+  pub words_lent : n ≡ length (take n w')
+  words_lent = sym (length-take-le n w' words_within)
 
   words_are : take n w' ≡ record_words bytes
   unfolding over
@@ -76,8 +76,8 @@ module _ (r : Record) (bytes w w' : List ℕ) (t : TakeRecordSays r bytes w w')
     fitted : Wrote (line_at s number bytes (length before)) before after k
     fitted = rw (line_at_lem s number bytes (length before) (Whole m) (sym whole ∙ t.is)) (rw words_are at l.text)
 
-    pub not-said : k ≡ 0 → (said : Said) → said ≡ record { state = s; taken = 0; length = 0 } → AnswerSays s number bytes before after said
-    not-said z said e =
+    pub not_said : k ≡ 0 → (said : Said) → said ≡ record { state = s; taken = 0; length = 0 } → AnswerSays s number bytes before after said
+    not_said z said e =
         let none = none_there (line_at s number bytes (length before)) (sym fitted.counted ∙ z) in
         rw e (record { text = rw z at fitted; state = rw none; taken = rw none })
 
@@ -92,37 +92,37 @@ module _ (s : State) (number : ℕ) (bytes text w w' : List ℕ) (r : Record) (t
   none_said : line_at s number bytes (length text) ≡ [] → AnswerSays s number bytes text text said
   none_said is = rw e (record { text = rw is (none_yet text); state = rw is; taken = rw is })
 
-  pub end-said : r ≡ End → AnswerSays s number bytes text text said
-  end-said q = none_said (line_at_lem s number bytes (length text) End (sym q ∙ t.is))
+  pub end_said : r ≡ End → AnswerSays s number bytes text text said
+  end_said q = none_said (line_at_lem s number bytes (length text) End (sym q ∙ t.is))
 
-  pub cut-said : r ≡ Cut → AnswerSays s number bytes text text said
-  cut-said q = none_said (line_at_lem s number bytes (length text) Cut (sym q ∙ t.is))
+  pub cut_said : r ≡ Cut → AnswerSays s number bytes text text said
+  cut_said q = none_said (line_at_lem s number bytes (length text) Cut (sym q ∙ t.is))
 
 -- what a caller learns of the sizes
 module _ (s : State) (number : ℕ) (bytes before after : List ℕ) (said : Said) (a : AnswerSays s number bytes before after said) where
-  pub said-within : said.length ≤ length before
+  pub said_within : said.length ≤ length before
   unfolding line_at
-  said-within = rw a.text.counted (line_within (record_of bytes) _ (length before))
+  said_within = rw a.text.counted (line_within (record_of bytes) _ (length before))
 
-  pub taken-within : said.taken ≤ length bytes
-  taken-within = rw a.taken (go (some (line_at s number bytes (length before))))
+  pub taken_within : said.taken ≤ length bytes
+  taken_within = rw a.taken (go (some (line_at s number bytes (length before))))
     where
       go : (b : Bool) → (if b then size_of (record_of bytes) else 0) ≤ length bytes
       go true = size_within bytes
       go false = omega arith
 
-  pub taken-some : (said.length ≡ 0 → ⊥) → 1 ≤ said.taken
+  pub taken_some : (said.length ≡ 0 → ⊥) → 1 ≤ said.taken
   unfolding line_at
-  taken-some h =
+  taken_some h =
       let n : length (line_at s number bytes (length before)) ≡ 0 → ⊥ = λ q. h (a.text.counted ∙ q) in
       rw (a.taken, some_there (line_at s number bytes (length before)) n) (line_taken (record_of bytes) _ (length before) n)
 
   -- the line as a part of the text afterwards
-  pub said-part : said.length ≤ length after
-  said-part = rw (as_long a.text (rw (← a.text.counted) said-within)) said-within
+  pub said_part : said.length ≤ length after
+  said_part = rw (as_long a.text (rw (← a.text.counted) said_within)) said_within
 
-  pub said-lent : said.length ≡ length (take said.length after)
-  said-lent = sym (length-take-le said.length after said-part)
+  pub said_lent : said.length ≡ length (take said.length after)
+  said_lent = sym (length-take-le said.length after said_part)
 
 -- of a caller that lends the rest of its bytes from a place on, `&bytes[at..]`, and of its text, `&mut text[at..]`
 rest_long : (l : List ℕ) (at : ℕ) → length (take (length l - at) (drop at l)) ≡ length l - at
@@ -132,12 +132,12 @@ pub taken_rest : (s : State) (number : ℕ) (bytes : List ℕ) (at : ℕ) (befor
     → AnswerSays s number (take (length bytes - at) (drop at bytes)) before after said → at ≤ length bytes → at + said.taken ≤ length bytes
 taken_rest s number bytes at before after said a h =
     let n = rest_long bytes at in
-    let k = taken-within s number (take (length bytes - at) (drop at bytes)) before after said a in
+    let k = taken_within s number (take (length bytes - at) (drop at bytes)) before after said a in
     omega arith
 
 pub said_rest : (s : State) (number : ℕ) (bytes text : List ℕ) (at : ℕ) (after : List ℕ) (said : Said)
     → AnswerSays s number bytes (take (length text - at) (drop at text)) after said → at ≤ length text → at + said.length ≤ length text
 said_rest s number bytes text at after said a h =
     let n = rest_long text at in
-    let k = said-within s number bytes (take (length text - at) (drop at text)) after said a in
+    let k = said_within s number bytes (take (length text - at) (drop at text)) after said a in
     omega arith

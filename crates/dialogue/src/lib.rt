@@ -1,4 +1,6 @@
 // The program's two forms: records of bytes in, lines of text out.
+#![tactic(auto)]
+
 use state::State;
 
 mod lines;
@@ -10,7 +12,7 @@ pub use records::take_record;
 pub use talks::answer;
 
 // What stands at the front of some bytes: nothing, a record that their end cuts, or a whole record of so many words.
-#[derive(Drop)]
+#[derive(Clone, Copy)]
 pub enum Record {
     End,
     Cut,
@@ -18,7 +20,7 @@ pub enum Record {
 }
 
 // What became of a record: the next state, how many bytes were taken, and how long its line is; both 0 where nothing was done.
-#[derive(Drop)]
+#[derive(Clone, Copy)]
 pub struct Said {
     pub state: State,
     pub taken: usize,

@@ -10,7 +10,7 @@ use services::LONGEST;
 use state::State;
 
 // The next state, and the length of the line.
-#[derive(Drop)]
+#[derive(Clone, Copy)]
 struct Line {
     state: State,
     length: usize,

@@ -1,4 +1,6 @@
 // The writer of profiles for programs in C or Rust, which have no state with enums to hand over.
+#![tactic(auto)]
+
 ghost use Rattle.std.specs.Prelude.{◌≡◌};
 ghost use Rattle.layout.specs.MixedMasks.{mask_from};
 ghost use Rattle.state.specs.Fresh.{measuring as Fresh·measuring};

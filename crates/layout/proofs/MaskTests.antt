@@ -16,9 +16,9 @@ module _ (mask : ℕ) where
   no_mask z = rw (eq-eqb mask 0 z)
 
   module _ (n : mask ≡ 0 → ⊥) (low : Bool) (el : low ≡ bit mask 14) where
-    pub low-set : low ≡ true → false ≡ mask_ok mask
+    pub low_set : low ≡ true → false ≡ mask_ok mask
     unfolding mask_ok
-    low-set q = rw (ne_eqb mask 0 n, ← el, q)
+    low_set q = rw (ne_eqb mask 0 n, ← el, q)
 
     pub low_clear : low ≡ false → (high : Bool) → high ≡ bit mask 15 → not high ≡ mask_ok mask
     unfolding mask_ok
@@ -34,8 +34,8 @@ cleared_ok mask e =
 
 -- `is_uncounted`
 module _ (mask width : ℕ) (e : width ≡ point_width mask) where
-  pub no-point : width ≡ 0 → false ≡ uncounted mask
-  no-point z = rw (eq-eqb (point_width mask) 0 (sym e ∙ z))
+  pub no_point : width ≡ 0 → false ≡ uncounted mask
+  no_point z = rw (eq-eqb (point_width mask) 0 (sym e ∙ z))
 
   pub points : (width ≡ 0 → ⊥) → (counted : Bool) → counted ≡ bit mask bits.points → not counted ≡ uncounted mask
   points n counted ec = rw (ne_eqb (point_width mask) 0 (λ z. n (e ∙ z)), ← ec)

@@ -77,9 +77,9 @@ mixed_is m s p n l w f a el ew ef ea = rw (el, ea, ef, ew) (omega arith)
 
 -- `length_of`
 module _ (mask : Mask) (s p k r : ℕ) where
-  pub plain-length : (word : ℕ) → mask ≡ Mask.Plain word → r ≡ profile_length word s p → r ≡ length_of mask s p k
-  plain-length word e h = rw e h
+  pub plain_length : (word : ℕ) → mask ≡ Mask.Plain word → r ≡ profile_length word s p → r ≡ length_of mask s p k
+  plain_length word e h = rw e h
 
-  pub mixed-length : (high low n : ℕ) → mask ≡ Mask.Mixed high low → n ≡ mixed_number high low → r ≡ mixed_length n s p k
+  pub mixed_length_lem : (high low n : ℕ) → mask ≡ Mask.Mixed high low → n ≡ mixed_number high low → r ≡ mixed_length n s p k
       → r ≡ length_of mask s p k
-  mixed-length high low n e en h = rw (e, ← en) h
+  mixed_length_lem high low n e en h = rw (e, ← en) h

@@ -25,13 +25,13 @@ module _ (mask k : ℕ) where
   quotient n h = (div-lt_iff_lt-mul (pow_pos k)).1 h
 
   -- below a bit's value the bit is clear; from there on, up to twice as much, it is set
-  below-clear : mask < 2 ^ k → bit mask k ≡ false
-  below-clear h =
+  below_clear : mask < 2 ^ k → bit mask k ≡ false
+  below_clear h =
       let q = quotient 1 (omega arith) in
       ne_eqb (mask / 2 ^ k % 2) 1 (λ e. omega arith)
 
-  above-set : 2 ^ k ≤ mask → mask < 2 ^ suc k → bit mask k ≡ true
-  above-set l h = go (ltb (mask / 2 ^ k) 1) refl
+  above_set : 2 ^ k ≤ mask → mask < 2 ^ suc k → bit mask k ≡ true
+  above_set l h = go (ltb (mask / 2 ^ k) 1) refl
     where
       go : (t : Bool) → ltb (mask / 2 ^ k) 1 ≡ t → bit mask k ≡ true
       go true e = absurd (omega (arith, (div-lt_iff_lt-mul (pow_pos k)).0 (ltb-true (mask / 2 ^ k) 1 e)))
@@ -48,11 +48,11 @@ run_clear (suc n) k mask h =
     go : (t : Bool) → ltb mask (2 ^ k) ≡ t → not (bit mask k) && ltb mask (2 ^ suc k) ≡ t
     go true e =
         let less = ltb-true mask (2 ^ k) e in
-        rw (below-clear mask k less, lt-ltb mask (2 ^ suc k) (omega (arith, pow-suc 2 k)))
+        rw (below_clear mask k less, lt-ltb mask (2 ^ suc k) (omega (arith, pow-suc 2 k)))
     go false e = higher (ltb mask (2 ^ suc k)) refl
       where
         higher : (u : Bool) → ltb mask (2 ^ suc k) ≡ u → not (bit mask k) && u ≡ false
-        higher true d = rw (above-set mask k (ltb-false mask (2 ^ k) e) (ltb-true mask (2 ^ suc k) d))
+        higher true d = rw (above_set mask k (ltb-false mask (2 ^ k) e) (ltb-true mask (2 ^ suc k) d))
         higher false d = off (not (bit mask k))
           where
             off : (b : Bool) → b && false ≡ false
@@ -66,9 +66,9 @@ module _ (mask : ℕ) (plain : Bool) (ep : plain ≡ mask_ok mask) where
   not_plain q = rw (said_no ep q)
 
   module _ (q : not plain ≡ false) (r : Bool) (er : r ≡ bit mask 17) where
-    pub reserved-set : r ≡ true → false ≡ mixed_ok mask
+    pub reserved_set : r ≡ true → false ≡ mixed_ok mask
     unfolding mixed_ok
-    reserved-set s = rw (said_yes ep q, ← er, s)
+    reserved_set s = rw (said_yes ep q, ← er, s)
 
     module _ (c : r ≡ false) (many : Bool) (em : many ≡ bit mask 16) (word : mask < 4294967296) where
       past : none_of (run 23 9) mask ≡ ltb mask 8388608
@@ -78,9 +78,9 @@ module _ (mask : ℕ) (plain : Bool) (ep : plain ≡ mask_ok mask) where
       unfolding mixed_ok
       with_number m = rw (said_yes ep q, ← er, c, past, ← em, m, and-true)
 
-      pub without-number : many ≡ false → ltb mask 262144 ≡ mixed_ok mask
+      pub without_number : many ≡ false → ltb mask 262144 ≡ mixed_ok mask
       unfolding mixed_ok
-      without-number m = rw (said_yes ep q, ← er, c, past, ← em, m) (go (ltb mask 8388608) refl)
+      without_number m = rw (said_yes ep q, ← er, c, past, ← em, m) (go (ltb mask 8388608) refl)
         where
           go : (t : Bool) → ltb mask 8388608 ≡ t → ltb mask 262144 ≡ t && none_of (run 18 5) mask
           go true e = sym (run_clear 5 18 mask (ltb-true mask 8388608 e))
@@ -92,11 +92,11 @@ of_kind mask kind k r e h = rw e h
 
 -- `admitted`
 module _ (mask : Mask) (r : Bool) where
-  pub plain-admitted : (word : ℕ) → mask ≡ Mask.Plain word → r ≡ mask_ok word → r ≡ admitted mask
-  plain-admitted word e h = rw e h
+  pub plain_admitted : (word : ℕ) → mask ≡ Mask.Plain word → r ≡ mask_ok word → r ≡ admitted mask
+  plain_admitted word e h = rw e h
 
-  pub mixed-admitted : (high low n : ℕ) → mask ≡ Mask.Mixed high low → n ≡ mixed_number high low → r ≡ mixed_ok n → r ≡ admitted mask
-  mixed-admitted high low n e en h = rw (e, ← en) h
+  pub mixed_admitted : (high low n : ℕ) → mask ≡ Mask.Mixed high low → n ≡ mixed_number high low → r ≡ mixed_ok n → r ≡ admitted mask
+  mixed_admitted high low n e en h = rw (e, ← en) h
 
 -- `mask_number`
 pub mixed_numbered : (mask : Mask) (n high low : ℕ) → mask ≡ Mask.Mixed high low → n ≡ mixed_number high low → n ≡ mask_number mask

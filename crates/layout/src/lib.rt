@@ -1,4 +1,6 @@
 // The layout of a profile, plain or mixed: its bits, the rules of its mask, and its length.
+#![tactic(auto)]
+
 pub mod bits;
 mod lengths;
 mod masks;
@@ -40,14 +42,14 @@ pub const REFLECTOR: usize = 11;
 pub const MOST_REFLECTORS: usize = 64;
 
 // The two kinds of profile (rules 5.4 and 5.19).
-#[derive(Drop)]
+#[derive(Clone, Copy)]
 pub enum Kind {
     Plain,
     Mixed,
 }
 
 // The mask of a job: a plain one of one word, or a mixed one of two, the high word first (rules 2.7 and 2.11).
-#[derive(Drop)]
+#[derive(Clone, Copy)]
 pub enum Mask {
     Plain(u16),
     Mixed(u16, u16),

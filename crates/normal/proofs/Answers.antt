@@ -23,23 +23,23 @@ module _ (p : Plan) (step : ℕ) (a : Bool) (ea : a ≡ is_step step) where
   no_step q = rw (said_no ea q)
 
   module _ (qa : not a ≡ false) (b : Bool) (eb : b ≡ every sector_ok (active_of p)) where
-    pub no-sector : not b ≡ true → 10 ≡ plan_refusal p step
+    pub no_sector : not b ≡ true → 10 ≡ plan_refusal p step
     unfolding plan_refusal
-    no-sector q = rw (said_yes ea qa, swap, said_no eb q)
+    no_sector q = rw (said_yes ea qa, swap, said_no eb q)
 
     module _ (qb : not b ≡ false) (c : Bool) (ec : c ≡ (some (active_of p) && increases (active_of p))) where
-      pub no-rise : not c ≡ true → 10 ≡ plan_refusal p step
+      pub no_rise : not c ≡ true → 10 ≡ plan_refusal p step
       unfolding plan_refusal
-      no-rise q = rw (said_yes ea qa, swap, said_yes eb qb, said_no ec q)
+      no_rise q = rw (said_yes ea qa, swap, said_yes eb qb, said_no ec q)
 
       module _ (qc : not c ≡ false) (d : Bool) (ed : d ≡ multiples step (active_of p)) where
-        pub no-multiple : not d ≡ true → 11 ≡ plan_refusal p step
+        pub no_multiple : not d ≡ true → 11 ≡ plan_refusal p step
         unfolding plan_refusal
-        no-multiple q = rw (said_yes ea qa, swap, said_yes eb qb, said_yes ec qc, said_no ed q)
+        no_multiple q = rw (said_yes ea qa, swap, said_yes eb qb, said_yes ec qc, said_no ed q)
 
-        pub no-refusal : not d ≡ false → 0 ≡ plan_refusal p step
+        pub no_refusal : not d ≡ false → 0 ≡ plan_refusal p step
         unfolding plan_refusal
-        no-refusal q = rw (said_yes ea qa, swap, said_yes eb qb, said_yes ec qc, said_yes ed q)
+        no_refusal q = rw (said_yes ea qa, swap, said_yes eb qb, said_yes ec qc, said_yes ed q)
 
 module _ (p q : Plan) (step r : ℕ) (e : r ≡ plan_refusal p step) where
   pub accepted : r ≡ 0 → q ≡ normal_plan p → record { refusal = r; plan = q } ≡ normalised_of p step

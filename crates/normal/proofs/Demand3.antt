@@ -20,8 +20,8 @@ use Rattle.normal.specs.Demands.{NormalStands, plan_back, Demand3, AnswersValid}
 use Rattle.plan.proofs.ArcSums.{active_length}
 use Rattle.plan.proofs.Grids.{Divides, divides}
 use Rattle.plan.proofs.FineSectors.{Fine, done, more, fine_of}
-use Rattle.normal.proofs.NormalSectors.{normal-valid, normal_normal, normal_length}
-use Rattle.normal.proofs.NormalRuns.{normal-runs, same-normal, same-run, fewest}
+use Rattle.normal.proofs.NormalSectors.{normal_valid, normal_normal, normal_length}
+use Rattle.normal.proofs.NormalRuns.{normal_runs, same_normal, same_run, fewest}
 
 not_zero : (f : ℕ) → T (is_function f) → eqb f 0 ≡ false
 not_zero zero h = absurd h
@@ -34,14 +34,14 @@ active_filled k (more {s = s} f a g r) = rw (not_zero s.function f, active_fille
 
 module _ (step : ℕ) (p : Plan) (v : ValidPlan step p) where
   -- the active sectors of the normal plan
-  normal-active : active_of (normal_plan p) ≡ normal (active_of p)
-  normal-active = active_filled (8 - length (normal (active_of p))) (fine_of step (normal-valid step (active_of p) v.valid))
+  normal_active : active_of (normal_plan p) ≡ normal (active_of p)
+  normal_active = active_filled (8 - length (normal (active_of p))) (fine_of step (normal_valid step (active_of p) v.valid))
 
-  valid-normal : ValidPlan step (normal_plan p)
-  valid-normal =
+  valid_normal : ValidPlan step (normal_plan p)
+  valid_normal =
       record {
         eight = let e = v.eight in simp (length-append, length-replicate) (omega (arith, normal_length (active_of p), active_length p.sectors));
-        valid = rw normal-active (normal-valid step (active_of p) v.valid);
+        valid = rw normal_active (normal_valid step (active_of p) v.valid);
       }
 
 stands : (step : ℕ) → T (is_step step) → (p : Plan) → ValidPlan step p → NormalStands normal_plan step p
@@ -49,11 +49,11 @@ stands step ok p v =
     record {
       alike =
           λ q w. (
-            λ e. same-run step o a (active_of q) v.valid w.valid (sym n ∙ ap active_of e ∙ normal-active step q w),
-            λ e. ap filled (same-normal step o a (active_of q) v.valid w.valid e),
+            λ e. same_run step o a (active_of q) v.valid w.valid (sym n ∙ ap active_of e ∙ normal_active step q w),
+            λ e. ap filled (same_normal step o a (active_of q) v.valid w.valid e),
           );
-      valid = valid-normal step p v;
-      runs_so = rw n (normal-runs step o a v.valid);
+      valid = valid_normal step p v;
+      runs_so = rw n (normal_runs step o a v.valid);
       again = rw (n, normal_normal);
       fewest = λ q w e. rw n (fewest step o a (active_of q) v.valid w.valid e);
     }
@@ -65,7 +65,7 @@ stands step ok p v =
     o = divides ok
 
     n : active_of (normal_plan p) ≡ normal (active_of p)
-    n = normal-active step p v
+    n = normal_active step p v
 
 -- the tests of a refusal that is 0
 tests : (a b c : Bool) → ◌≡◌ {A = ℕ} (if not a then 9 else if not b then 10 else if not c then 11 else 0) 0 → T a × T b × T c

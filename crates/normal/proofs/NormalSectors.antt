@@ -44,12 +44,12 @@ last_normal d [] = refl
 last_normal d (s ∷ ss) = last_joined d (join_view s (normal ss)) ∙ last_normal (stop_of s) ss
 
 module _ (step : ℕ) where
-  fine-increases : {b : ℕ} {ss : List Sector} → Fine step (suc b) ss → T (increases_from b ss)
-  fine-increases done = tt
-  fine-increases {b} (more {s = s} f a g r) = search (and_both, le→leb (suc b) (stop_of s) a, fine-increases r)
+  fine_increases : {b : ℕ} {ss : List Sector} → Fine step (suc b) ss → T (increases_from b ss)
+  fine_increases done = tt
+  fine_increases {b} (more {s = s} f a g r) = search (and_both, le→leb (suc b) (stop_of s) a, fine_increases r)
 
-  pub fine-valid : {low : ℕ} {ss : List Sector} → Fine step low ss → T (some ss) → Valid step ss
-  fine-valid {ss = ss} h t = record { at_least_one = t; in_range = ranges h; increasing = rising h; whole_steps = wholes h }
+  pub fine_valid : {low : ℕ} {ss : List Sector} → Fine step low ss → T (some ss) → Valid step ss
+  fine_valid {ss = ss} h t = record { at_least_one = t; in_range = ranges h; increasing = rising h; whole_steps = wholes h }
     where
       ranges : {low : ℕ} {ss : List Sector} → Fine step low ss → T (every sector_ok ss)
       ranges done = tt
@@ -57,7 +57,7 @@ module _ (step : ℕ) where
 
       rising : {low : ℕ} {ss : List Sector} → Fine step low ss → T (increases ss)
       rising done = tt
-      rising (more f a g r) = fine-increases r
+      rising (more f a g r) = fine_increases r
 
       wholes : {low : ℕ} {ss : List Sector} → Fine step low ss → T (multiples step ss)
       wholes done = tt
@@ -67,21 +67,21 @@ module _ (step : ℕ) where
   lower l done = done
   lower {low'} l (more {s = s} f a g r) = more {low = low'} {s = s} f (omega arith) g r
 
-  joined-fine : {low : ℕ} {s : Sector} {ss r : List Sector} → Join s ss r → Fine step low (s ∷ ss) → Fine step low r
-  joined-fine before h = h
-  joined-fine (onto q) (more {low = low} {s = s} f a g r) = lower {low = suc (stop_of s)} (omega arith) r
+  joined_fine : {low : ℕ} {s : Sector} {ss r : List Sector} → Join s ss r → Fine step low (s ∷ ss) → Fine step low r
+  joined_fine before h = h
+  joined_fine (onto q) (more {low = low} {s = s} f a g r) = lower {low = suc (stop_of s)} (omega arith) r
 
-  pub normal-fine : {low : ℕ} {ss : List Sector} → Fine step low ss → Fine step low (normal ss)
-  normal-fine done = done
-  normal-fine (more {s = s} {ss = ss} f a g r) = joined-fine (join_view s (normal ss)) (more f a g (normal-fine r))
+  pub normal_fine : {low : ℕ} {ss : List Sector} → Fine step low ss → Fine step low (normal ss)
+  normal_fine done = done
+  normal_fine (more {s = s} {ss = ss} f a g r) = joined_fine (join_view s (normal ss)) (more f a g (normal_fine r))
 
-  some-joined : {s : Sector} {ss r : List Sector} → Join s ss r → T (some r)
-  some-joined before = tt
-  some-joined (onto q) = tt
+  some_joined : {s : Sector} {ss r : List Sector} → Join s ss r → T (some r)
+  some_joined before = tt
+  some_joined (onto q) = tt
 
-  some-normal : (ss : List Sector) → T (some ss) → T (some (normal ss))
-  some-normal [] h = h
-  some-normal (s ∷ ss) h = some-joined (join_view s (normal ss))
+  some_normal : (ss : List Sector) → T (some ss) → T (some (normal ss))
+  some_normal [] h = h
+  some_normal (s ∷ ss) h = some_joined (join_view s (normal ss))
 
-  pub normal-valid : (ss : List Sector) → Valid step ss → Valid step (normal ss)
-  normal-valid ss v = fine-valid (normal-fine (fine_of step v)) (some-normal ss v.at_least_one)
+  pub normal_valid : (ss : List Sector) → Valid step ss → Valid step (normal ss)
+  normal_valid ss v = fine_valid (normal_fine (fine_of step v)) (some_normal ss v.at_least_one)

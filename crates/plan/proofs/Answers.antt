@@ -12,25 +12,25 @@ use Rattle.plan.specs.Validity.{increases, multiples}
 use Rattle.plan.specs.Checks.{lit_shots, measure_error}
 
 module _ (p : Plan) (step speed : ℕ) (a : Bool) (ea : a ≡ (some (active_of p) && increases (active_of p))) where
-  pub error-3 : not a ≡ true → 3 ≡ measure_error p step speed
+  pub error_3 : not a ≡ true → 3 ≡ measure_error p step speed
   unfolding measure_error
-  error-3 q = rw (said_no ea q)
+  error_3 q = rw (said_no ea q)
 
   module _ (qa : not a ≡ false) (b : Bool) (eb : b ≡ multiples step (active_of p)) where
-    pub error-4 : not b ≡ true → 4 ≡ measure_error p step speed
+    pub error_4 : not b ≡ true → 4 ≡ measure_error p step speed
     unfolding measure_error
-    error-4 q = rw (said_yes ea qa, said_no eb q)
+    error_4 q = rw (said_yes ea qa, said_no eb q)
 
     module _ (qb : not b ≡ false) (n : ℕ) (en : n ≡ revolution_shots step) (x : ℕ) (ex : x ≡ speed * n) where
-      pub error-1 : 14400 < x → 1 ≡ measure_error p step speed
+      pub error_1 : 14400 < x → 1 ≡ measure_error p step speed
       unfolding measure_error
-      error-1 h = rw (said_yes ea qa, said_yes eb qb, ← en, ← ex, lt-ltb _ _ h)
+      error_1 h = rw (said_yes ea qa, said_yes eb qb, ← en, ← ex, lt-ltb _ _ h)
 
       module _ (hx : x ≤ 14400) (m : ℕ) (em : m ≡ lit_shots p step) (y : ℕ) (ey : y ≡ speed * m) where
-        pub error-2 : 10800 < y → 2 ≡ measure_error p step speed
+        pub error_2 : 10800 < y → 2 ≡ measure_error p step speed
         unfolding measure_error
-        error-2 h = rw (said_yes ea qa, said_yes eb qb, ← en, ← ex, le-ltb _ _ hx, ← em, ← ey, lt-ltb _ _ h)
+        error_2 h = rw (said_yes ea qa, said_yes eb qb, ← en, ← ex, le-ltb _ _ hx, ← em, ← ey, lt-ltb _ _ h)
 
-        pub no-error : y ≤ 10800 → 0 ≡ measure_error p step speed
+        pub no_error : y ≤ 10800 → 0 ≡ measure_error p step speed
         unfolding measure_error
-        no-error h = rw (said_yes ea qa, said_yes eb qb, ← en, ← ex, le-ltb _ _ hx, ← em, ← ey, le-ltb _ _ h)
+        no_error h = rw (said_yes ea qa, said_yes eb qb, ← en, ← ex, le-ltb _ _ hx, ← em, ← ey, le-ltb _ _ h)

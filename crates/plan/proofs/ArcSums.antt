@@ -53,11 +53,11 @@ arc_start l step before place e =
 
 -- the shots before a sector, at most 8 times circle, fit 16 bits
 module _ (i shot k step before stop : ℕ) (h : shot ≤ i * circle) (e : k ≡ shots_to step (step_after step before) stop) where
-  pub shots-more : shot + k ≤ (i + 1) * circle
-  shots-more = omega (arith, few step (step_after step before) stop)
+  pub shots_more : shot + k ≤ (i + 1) * circle
+  shots_more = omega (arith, few step (step_after step before) stop)
 
-  pub shots-fit : i < 8 → shot + k < 65536
-  shots-fit l = omega (arith, shots-more)
+  pub shots_fit : i < 8 → shot + k < 65536
+  shots_fit l = omega (arith, shots_more)
 
 at_most : (b : Bool) (n most : ℕ) → n ≤ most → (if b then n else 0) ≤ most
 at_most true n most h = h
@@ -67,27 +67,27 @@ pub count_fits : (l : List Sector) (n : ℕ) → length l ≡ 8 → n ≡ length
 count_fits l n len e = omega (arith, active_length l)
 
 module _ (p : Plan) (step k sum : ℕ) where
-  pub lit-start : 0 + shots_with is_lit (arcs step (active_of p)) ≡ lit_shots p step
+  pub lit_start : 0 + shots_with is_lit (arcs step (active_of p)) ≡ lit_shots p step
   unfolding lit_shots
-  lit-start = omega arith
+  lit_start = omega arith
 
-  pub lit-ends : (n : ℕ) → n ≡ length (active_of p)
+  pub lit_ends : (n : ℕ) → n ≡ length (active_of p)
       → sum + shots_with is_lit (drop k (arcs step (active_of p))) ≡ lit_shots p step → n ≤ k → sum ≡ lit_shots p step
-  lit-ends n e inv h =
+  lit_ends n e inv h =
       let len = arcs_length step (last_stop 0 (active_of p)) 0 (active_of p) in
       omega (arith, rw (drop_of_length-le (arcs step (active_of p)) {i = k} (omega arith)) at inv)
 
   module _ (a : Arc) (ea : a ≡ arc_at p step k) (r : ℕ) (er : r ≡ (if is_lit a.function then a.shots else 0)) where
-    pub lit-more : (n : ℕ) → n ≡ length (active_of p) → sum + shots_with is_lit (drop k (arcs step (active_of p))) ≡ lit_shots p step → k < n
+    pub lit_more : (n : ℕ) → n ≡ length (active_of p) → sum + shots_with is_lit (drop k (arcs step (active_of p))) ≡ lit_shots p step → k < n
         → (sum + r) + shots_with is_lit (drop (k + 1) (arcs step (active_of p))) ≡ lit_shots p step
     unfolding arc_at
-    lit-more n e inv h =
+    lit_more n e inv h =
         let len = arcs_length step (last_stop 0 (active_of p)) 0 (active_of p) in
         omega (arith, rw ea at er, rw (from_here (arcs step (active_of p)) k no_arc (omega arith)) at inv)
 
-    pub lit-bound : sum ≤ k * circle → sum + r ≤ (k + 1) * circle
+    pub lit_bound : sum ≤ k * circle → sum + r ≤ (k + 1) * circle
     unfolding arc_at
-    lit-bound h = omega (arith, at_most (is_lit a.function) a.shots circle (rw ea (arc_few step _ 0 (active_of p) k)))
+    lit_bound h = omega (arith, at_most (is_lit a.function) a.shots circle (rw ea (arc_few step _ 0 (active_of p) k)))
 
-    pub lit-fits : sum ≤ k * circle → (n : ℕ) → k < n → n ≤ 8 → sum + r < 65536
-    lit-fits h n l m = omega (arith, lit-bound h)
+    pub lit_fits : sum ≤ k * circle → (n : ℕ) → k < n → n ≤ 8 → sum + r < 65536
+    lit_fits h n l m = omega (arith, lit_bound h)

@@ -44,8 +44,8 @@ pub zero_grid : (step : ℕ) → Grid step 0
 zero_grid step = record { whole = dvd-zero step; below = omega arith }
 
 module _ (step : ℕ) (v : Divides step) where
-  after-grid : {d : ℕ} → Grid step d → Grid step (step_after step d)
-  after-grid g =
+  after_grid : {d : ℕ} → Grid step d → Grid step (step_after step d)
+  after_grid g =
       record { whole = (dvd-mod_iff step v.around).1 (dvd-add step g.whole (dvd_refl step)); below = omega arith }
 
   -- from the first shot of a sector to its last
@@ -54,7 +54,7 @@ module _ (step : ℕ) (v : Divides step) where
 
   -- a sector ends at its stop
   pub ends : {b e : ℕ} → Grid step b → Grid step e → on step (step_after step b) ((e + circle - step_after step b) % circle / step) ≡ e
-  ends {b} g h = on_is step _ (step_after step b) (omega arith) ∙ rw (width (after-grid g) h) (omega arith)
+  ends {b} g h = on_is step _ (step_after step b) (omega arith) ∙ rw (width (after_grid g) h) (omega arith)
 
   -- two directions on the grid are a step apart
   apart : (a b : ℕ) → step ∣ a → step ∣ b → a < b → a + step ≤ b
@@ -62,7 +62,7 @@ module _ (step : ℕ) (v : Divides step) where
 
   -- how far a sector goes, after the stop before it
   pub span : (b e : ℕ) → Grid step b → Grid step e → b < e → shots_to step (step_after step b) e * step + b ≡ e
-  span b e g h l = omega (arith, width (after-grid g) h, apart b e g.whole h.whole l)
+  span b e g h l = omega (arith, width (after_grid g) h, apart b e g.whole h.whole l)
 
-  pub span-around : (b e : ℕ) → Grid step b → Grid step e → e ≤ b → shots_to step (step_after step b) e * step + b ≡ e + circle
-  span-around b e g h l = omega (arith, width (after-grid g) h, apart b circle g.whole v.around g.below)
+  pub span_around : (b e : ℕ) → Grid step b → Grid step e → e ≤ b → shots_to step (step_after step b) e * step + b ≡ e + circle
+  span_around b e g h l = omega (arith, width (after_grid g) h, apart b circle g.whole v.around g.below)

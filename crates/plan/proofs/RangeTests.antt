@@ -10,22 +10,22 @@ use Rattle.plan.specs.Validity.{sector_ok}
 
 -- `sector_ok`
 module _ (s : Sector) (a : Bool) (ea : a ≡ is_function s.function) where
-  pub no-function : not a ≡ true → false ≡ sector_ok s
-  no-function q = rw (said_no ea q)
+  pub no_function : not a ≡ true → false ≡ sector_ok s
+  no_function q = rw (said_no ea q)
 
-  pub function-stop : not a ≡ false → (b : Bool) → b ≡ on_circle (stop_of s) → b ≡ sector_ok s
-  function-stop q b eb = rw (said_yes ea q) eb
+  pub function_stop : not a ≡ false → (b : Bool) → b ≡ on_circle (stop_of s) → b ≡ sector_ok s
+  function_stop q b eb = rw (said_yes ea q) eb
 
 -- `entry_in_range`
 module _ (s : Sector) (a : Bool) (ea : a ≡ on_circle (stop_of s)) where
-  pub off-circle : not a ≡ true → false ≡ entry_in_range s
+  pub off_circle : not a ≡ true → false ≡ entry_in_range s
   unfolding entry_in_range
-  off-circle q = rw (said_no ea q, and-false)
+  off_circle q = rw (said_no ea q, and-false)
 
   module _ (qa : not a ≡ false) where
-    pub not-used : s.function ≡ 0 → true ≡ entry_in_range s
+    pub not_used : s.function ≡ 0 → true ≡ entry_in_range s
     unfolding entry_in_range
-    not-used z = rw (said_yes ea qa, eq-eqb _ _ z)
+    not_used z = rw (said_yes ea qa, eq-eqb _ _ z)
 
     pub used : (s.function ≡ 0 → ⊥) → (b : Bool) → b ≡ is_function s.function → b ≡ entry_in_range s
     unfolding entry_in_range

@@ -12,8 +12,8 @@ use Rattle.plan.specs.declared.Sector.{Sector}
 use Rattle.plan.specs.Sectors.{stop_of}
 use Rattle.plan.specs.Validity.{Valid}
 use Rattle.plan.specs.Shots.{Shot, last_stop, shots_of, arcs_from, shots, sweeps, run}
-use Rattle.plan.proofs.Grids.{Divides, Grid, on, span, span-around}
-use Rattle.plan.proofs.FineSectors.{Fine, done, more, fine_of, last-above, last-grid}
+use Rattle.plan.proofs.Grids.{Divides, Grid, on, span, span_around}
+use Rattle.plan.proofs.FineSectors.{Fine, done, more, fine_of, last_above, last_grid}
 
 -- the shots of a sector, from the stop before it
 abbrev pub swept : ℕ → ℕ → Sector → List Shot
@@ -48,14 +48,14 @@ run_more step b s ss =
 
 module _ (step : ℕ) (v : Divides step) where
   -- one revolution has N shots
-  rest-length : {b : ℕ} {ss : List Sector} → Grid step b → Fine step (suc b) ss → length (run_from step b ss) * step + b ≡ last_stop b ss
-  rest-length g done = omega arith
-  rest-length {b} g (more {s = s} {ss = ss} f a k r) = rw run_more (omega (arith, span step v b (stop_of s) g k a, rest-length k r))
+  rest_length : {b : ℕ} {ss : List Sector} → Grid step b → Fine step (suc b) ss → length (run_from step b ss) * step + b ≡ last_stop b ss
+  rest_length g done = omega arith
+  rest_length {b} g (more {s = s} {ss = ss} f a k r) = rw run_more (omega (arith, span step v b (stop_of s) g k a, rest_length k r))
 
   whole_length : {low : ℕ} {ss : List Sector} → T (some ss) → Fine step low ss → length (run_from step (last_stop 0 ss) ss) * step ≡ circle
   whole_length t done = absurd t
   whole_length t (more {s = s} {ss = ss} f a k r) =
-      rw run_more (omega (arith, span-around step v (last_stop (stop_of s) ss) (stop_of s) (last-grid step k r) k (last-above step r), rest-length k r))
+      rw run_more (omega (arith, span_around step v (last_stop (stop_of s) ss) (stop_of s) (last_grid step k r) k (last_above step r), rest_length k r))
 
   pub run_length : (ss : List Sector) → Valid step ss → length (run step ss) ≡ revolution_shots step
   run_length ss w =

@@ -73,8 +73,8 @@ found step b k (s ∷ ss) (suc place) h =
     }
 
 module _ (step : ℕ) (p : Plan) where
-  arc-in : (place : ℕ) → place < length (active_of p) → ArcIn step p place (get_or (arcs step (active_of p)) place no_arc)
-  arc-in place h =
+  arc_in : (place : ℕ) → place < length (active_of p) → ArcIn step p place (get_or (arcs step (active_of p)) place no_arc)
+  arc_in place h =
       let r = found step (last_stop 0 (active_of p)) 0 (active_of p) place h in
       rw r.is (within r)
     where
@@ -96,7 +96,7 @@ module _ (step : ℕ) (p : Plan) where
           }
 
 pub tiling : Tiling
-tiling step p = record { one_each = arcs_length step (last_stop 0 (active_of p)) 0 (active_of p); arc = arc-in step p }
+tiling step p = record { one_each = arcs_length step (last_stop 0 (active_of p)) 0 (active_of p); arc = arc_in step p }
 
 -- the shots of arcs whose function passes a test are as many as such shots in their run
 count_append : {A : Type 0} (test : A → Bool) (l m : List A) → count test (l ++ m) ≡ count test l + count test m

@@ -1,4 +1,6 @@
 // Sector plans: their ranges, their active sectors, their arcs in a revolution, and the checks before measuring.
+#![tactic(auto)]
+
 use units::Angle;
 
 mod active;
@@ -14,20 +16,20 @@ pub use entries::{entry_at, unused, with_entry};
 pub use ranges::{is_step, plan_in_range};
 
 // One entry of a plan.
-#[derive(Drop)]
+#[derive(Clone, Copy)]
 pub struct Sector {
     pub function: u16,
     pub stop: Angle,
 }
 
-#[derive(Drop)]
+#[derive(Clone, Copy)]
 pub struct Plan {
     pub sectors: [Sector; 8],
 }
 
 // What one active sector is in a revolution: its function, first and last direction, the number of its first shot, how many
 // shots it has and how many of them give points.
-#[derive(Drop)]
+#[derive(Clone, Copy)]
 pub struct Arc {
     pub function: u16,
     pub first: Angle,

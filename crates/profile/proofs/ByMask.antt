@@ -6,7 +6,7 @@ use Prim.Native.Nat.{ℕ, ◌+◌, ◌≤◌}
 use native.Mathlib.Omega.{arith}
 use lib.ListN.{length, length-append}
 use Rattle.words.specs.Buffers.{Wrote, Put}
-use Rattle.words.proofs.Puts.{room, and-put, put_none}
+use Rattle.words.proofs.Puts.{room, and_put, put_none}
 use Rattle.layout.specs.declared.Mask.{Mask}
 use Rattle.layout.specs.MixedMasks.{mixed_number, mask_number}
 use Rattle.layout.specs.Fields.{Fields}
@@ -19,7 +19,7 @@ use Rattle.profile.specs.Profiles.{Scan, fields_of}
 use Rattle.profile.specs.Mixed.{with_layer}
 use Rattle.profile.specs.Revolutions.{profile_by}
 use Rattle.profile.specs.Asked.{ContourAsked, ProfileAsked, contour_fields, reflector_part_of, head_by, layer_by, end_by}
-use Rattle.profile.proofs.ProfileLengths.{fields-many}
+use Rattle.profile.proofs.ProfileLengths.{fields_many}
 use Rattle.profile.proofs.Alone.{alone, fields_alone, arcs_alone}
 
 -- `length_by`
@@ -28,18 +28,18 @@ by_numbers mask a b k n p r en ep er = er ∙ rw (en, ep)
 
 -- `put_head_by`
 module _ (mask : Mask) (n size : ℕ) (h : (n ≤ 8) × (length (head_by mask n) ≤ size)) where
-  pub plain-head-room : {word : ℕ} → mask ≡ Mask.Plain word → (n ≤ 8) × (head_length ≤ size)
-  plain-head-room e = rw e at h
+  pub plain_head_room : {word : ℕ} → mask ≡ Mask.Plain word → (n ≤ 8) × (head_length ≤ size)
+  plain_head_room e = rw e at h
 
-  pub mixed-head-room : {high low : ℕ} → mask ≡ Mask.Mixed high low → (n ≤ 8) × (mixed_head_length ≤ size)
-  mixed-head-room e = rw e at h
+  pub mixed_head_room : {high low : ℕ} → mask ≡ Mask.Mixed high low → (n ≤ 8) × (mixed_head_length ≤ size)
+  mixed_head_room e = rw e at h
 
 module _ (mask : Mask) (n : ℕ) {d₀ d : List ℕ} {r : ℕ} where
-  pub plain-head : {word : ℕ} → mask ≡ Mask.Plain word → Wrote (head word n) d₀ d r → Wrote (head_by mask n) d₀ d r
-  plain-head e w = rw e w
+  pub plain_head : {word : ℕ} → mask ≡ Mask.Plain word → Wrote (head word n) d₀ d r → Wrote (head_by mask n) d₀ d r
+  plain_head e w = rw e w
 
-  pub mixed-head : {high low : ℕ} → mask ≡ Mask.Mixed high low → Wrote (mixed_head high low n) d₀ d r → Wrote (head_by mask n) d₀ d r
-  mixed-head e w = rw e w
+  pub mixed_head_lem : {high low : ℕ} → mask ≡ Mask.Mixed high low → Wrote (mixed_head high low n) d₀ d r → Wrote (head_by mask n) d₀ d r
+  mixed_head_lem e w = rw e w
 
 -- `put_end_by`
 module _ (mask : Mask) (l : List ℕ) (at : ℕ) where
@@ -47,25 +47,25 @@ module _ (mask : Mask) (l : List ℕ) (at : ℕ) where
   no_end {d = d} e = rw e (put_none d at)
 
   module _ {high low m : ℕ} (e : mask ≡ Mask.Mixed high low) (em : m ≡ mixed_number high low) where
-    pub end-room : (size : ℕ) → (at + length (end_by mask l) ≤ size) × (length l ≤ 704)
+    pub end_room : (size : ℕ) → (at + length (end_by mask l) ≤ size) × (length l ≤ 704)
         → (at + length (reflector_part_of m l) ≤ size) × (length l ≤ 704)
-    end-room size h = rw em (rw e at h)
+    end_room size h = rw em (rw e at h)
 
-    pub mixed-end : {d d' : List ℕ} {r : ℕ} → Put (reflector_part_of m l) d at d' r → Put (end_by mask l) d at d' r
-    mixed-end p = rw (e, ← em) p
+    pub mixed_end : {d d' : List ℕ} {r : ℕ} → Put (reflector_part_of m l) d at d' r → Put (end_by mask l) d at d' r
+    mixed_end p = rw (e, ← em) p
 
 -- a profile is its head, its contour and its end, for which the reflectors are of no account but at the end
 by_parts : (s : State) (g : Scan) (mask : Mask) (sent counter n : ℕ) → n ≡ length (active_of s.working)
     → profile_by s g mask sent counter
     ≡ head_by mask n ++ contour (contour_fields s (alone g) (mask_number mask) (layer_by mask) sent counter) ++ end_by mask g.reflectors
 by_parts s g (Mask.Plain word) sent counter n count =
-    let many : length (fields_of s g word sent counter).sectors ≡ n = fields-many s g word sent counter ∙ sym count in
+    let many : length (fields_of s g word sent counter).sectors ≡ n = fields_many s g word sent counter ∙ sym count in
     let same : contour (fields_of s g word sent counter) ≡ contour (fields_of s (alone g) word sent counter) =
     ap contour (fields_alone s g word sent counter) in
     (λ j. head word (many j) ++ same j) ∙ sym (append-nil _)
 by_parts s g (Mask.Mixed high low) sent counter n count =
     let k = mixed_number high low in
-    let many : length (fields_of s g k sent counter).sectors ≡ n = fields-many s g k sent counter ∙ sym count in
+    let many : length (fields_of s g k sent counter).sectors ≡ n = fields_many s g k sent counter ∙ sym count in
     let same : contour (contour_fields s g k 1 sent counter) ≡ contour (contour_fields s (alone g) k 1 sent counter) =
     ap (λ (f : Fields). contour (with_layer 1 f)) (fields_alone s g k sent counter) in
     (λ j. mixed_head high low (many j) ++ same j ++ reflector_part_of k g.reflectors)
@@ -79,8 +79,8 @@ module _ {s : State} {g : Scan} {mask : Mask} {sent counter : ℕ} {d₀ : List 
   abbrev middle : ℕ → List ℕ
   middle layer = contour (contour_fields s (alone g) m layer sent counter)
 
-  pub few-sectors : n ≤ 8
-  few-sectors = count_fits s.working.sectors n asked.eight count
+  pub few_sectors : n ≤ 8
+  few_sectors = count_fits s.working.sectors n asked.eight count
 
   words : profile_by s g mask sent counter ≡ head_by mask n ++ middle (layer_by mask) ++ end
   words = rw em (by_parts s g mask sent counter n count)
@@ -91,12 +91,12 @@ module _ {s : State} {g : Scan} {mask : Mask} {sent counter : ℕ} {d₀ : List 
       ap length words ∙ length-append (head_by mask n ++ middle (layer_by mask)) end ∙ rw (length-append (head_by mask n) (middle (layer_by mask))) in
       omega (arith, asked.room)
 
-  pub head-asked : (n ≤ 8) × (length (head_by mask n) ≤ length d₀)
-  head-asked = (few-sectors, omega (arith, fits))
+  pub head_asked : (n ≤ 8) × (length (head_by mask n) ≤ length d₀)
+  head_asked = (few_sectors, omega (arith, fits))
 
   module _ {d₁ : List ℕ} {at₁ : ℕ} (begun : Wrote (head_by mask n) d₀ d₁ at₁) where
-    pub contour-asked : (layer : ℕ) → layer ≡ layer_by mask → ContourAsked s (alone g) m layer sent counter at₁ d₁
-    contour-asked layer el =
+    pub contour_asked : (layer : ℕ) → layer ≡ layer_by mask → ContourAsked s (alone g) m layer sent counter at₁ d₁
+    contour_asked layer el =
         record {
           eight = asked.eight;
           arcs_in = arcs_alone g asked.arcs_in;
@@ -105,10 +105,10 @@ module _ {s : State} {g : Scan} {mask : Mask} {sent counter : ℕ} {d₀ : List 
 
     module _ {d₂ : List ℕ} {at₂ : ℕ} {layer : ℕ} (el : layer ≡ layer_by mask) (filled : Put (middle layer) d₁ at₁ d₂ at₂) where
       two : Wrote (head_by mask n ++ middle (layer_by mask)) d₀ d₂ at₂
-      two = and-put begun (rw el at filled)
+      two = and_put begun (rw el at filled)
 
-      pub end-asked : (at₂ + length end ≤ length d₂) × (length g.reflectors ≤ 704)
-      end-asked = (room two end (rw length-append fits), asked.few)
+      pub end_asked : (at₂ + length end ≤ length d₂) × (length g.reflectors ≤ 704)
+      end_asked = (room two end (rw length-append fits), asked.few)
 
-      pub by-done : {d₃ : List ℕ} {r : ℕ} → Put end d₂ at₂ d₃ r → Wrote (profile_by s g mask sent counter) d₀ d₃ r
-      by-done p = rw words (and-put two p)
+      pub by_done : {d₃ : List ℕ} {r : ℕ} → Put end d₂ at₂ d₃ r → Wrote (profile_by s g mask sent counter) d₀ d₃ r
+      by_done p = rw words (and_put two p)

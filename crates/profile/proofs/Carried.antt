@@ -44,7 +44,7 @@ use Rattle.profile.specs.Revolutions.{risen, profile_of, revolved}
 use Rattle.profile.specs.Demands.{length_by, sent_length, SentLength, Turning, NeverLonger, MixedNeverLonger}
 use Rattle.profile.specs.Demands.{SentAcceptable, MixedSentAcceptable, PointsAreShots, MixedPointsAreShots}
 use Rattle.profile.proofs.Revolved.{revolution_by}
-use Rattle.profile.proofs.ProfileLengths.{fields-many, fields_fit}
+use Rattle.profile.proofs.ProfileLengths.{fields_many, fields_fit}
 use Rattle.profile.proofs.MixedLengths.{few_given, mixed_fit}
 use Rattle.profile.proofs.Sending.{by_long}
 
@@ -62,9 +62,9 @@ module _ (s : State) (place : ℕ) where
   arc = get_or (arcs s.step.0 (active_of s.working)) place no_arc
 
   -- the run's shot at a point's place
-  shot-there : (i : ℕ) → i < arc.points
+  shot_there : (i : ℕ) → i < arc.points
       → get_or (run_of s.step.0 s.working) (arc.shot + i) no_shot ≡ record { direction = steps_past s.step.0 i arc.first.0; function = 3 }
-  shot-there i h =
+  shot_there i h =
       let r = pointed s.step.0 (last_stop 0 (active_of s.working)) 0 (active_of s.working) place i h in
       let a = (tiling s.step.0 s.working).arc place r.0 in
       a.shot i (omega (arith, r.1.points))
@@ -84,8 +84,8 @@ points_are_shots s g mask sent counter place h other =
       body = ap (λ (f : SectorFields). f.body) is
           ∙ turns_same _ _ (arc s place).points
           (λ i l. let k = (arc s place).shot + i in
-          ap (λ (x : Shot). point_words mask (get_or g.distances k 0) x.direction (get_or g.echoes k 0)) (sym (shot-there s place i l)));
-      measured = λ i l. ap (λ (x : Shot). x.function) (shot-there s place i l);
+          ap (λ (x : Shot). point_words mask (get_or g.distances k 0) x.direction (get_or g.echoes k 0)) (sym (shot_there s place i l)));
+      measured = λ i l. ap (λ (x : Shot). x.function) (shot_there s place i l);
     }
 
 -- how many words a job's profile has
@@ -113,13 +113,13 @@ module _ (s : State) (g : Scan) (t : Turning s g) where
   measuring : Measures s
   measuring = measures s t.range t.measures t.eight
 
-  eight-most : length (active_of s.working) ≤ 8
-  eight-most = let e = t.eight in omega (arith, active_length s.working.sectors)
+  eight_most : length (active_of s.working) ≤ 8
+  eight_most = let e = t.eight in omega (arith, active_length s.working.sectors)
 
   -- at 5 Hz or more, 10800 lit shots a second are 2160 a revolution
-  points-most : total (λ a. a.points) (arcs_of s) ≤ 2160
+  points_most : total (λ a. a.points) (arcs_of s) ≤ 2160
   unfolding lit_shots
-  points-most =
+  points_most =
       let m = measuring in
       let most = points_lit s.step.0 (last_stop 0 (active_of s.working)) 0 (active_of s.working) in
       let lit = lit_shots s.working s.step.0 in
@@ -128,40 +128,40 @@ module _ (s : State) (g : Scan) (t : Turning s g) where
 
 -- the greatest length of a plain profile, and of one of either kind
 module _ (s : State) (g : Scan) (t : Turning s g) where
-  plain-most : (word : ℕ) → length_by s g.reflectors (Mask.Plain word) ≤ greatest_length
-  plain-most word = greatest word _ _ (eight-most s g t) (points-most s g t)
+  plain_most : (word : ℕ) → length_by s g.reflectors (Mask.Plain word) ≤ greatest_length
+  plain_most word = greatest word _ _ (eight_most s g t) (points_most s g t)
 
-  either-most : (mask : Mask) → length_by s g.reflectors mask ≤ greatest_mixed
-  either-most (Mask.Plain word) = omega (arith, plain-most word)
-  either-most (Mask.Mixed high low) =
-      greatest_mixed_lem (mixed_number high low) _ _ _ (eight-most s g t) (points-most s g t) (few_given g t.reflectors)
+  either_most : (mask : Mask) → length_by s g.reflectors mask ≤ greatest_mixed
+  either_most (Mask.Plain word) = omega (arith, plain_most word)
+  either_most (Mask.Mixed high low) =
+      greatest_mixed_lem (mixed_number high low) _ _ _ (eight_most s g t) (points_most s g t) (few_given g t.reflectors)
 
-  plain-job : (j : Job) → T (not (has_kind Kind.Mixed j)) → (if is_job j then length_by s g.reflectors (mask_of j) else 0) ≤ greatest_length
-  plain-job Absent h = omega arith
-  plain-job (Counted left (Mask.Plain word) sent) h = plain-most word
-  plain-job (Counted left (Mask.Mixed high low) sent) h = absurd h
-  plain-job (Endless (Mask.Plain word) sent) h = plain-most word
-  plain-job (Endless (Mask.Mixed high low) sent) h = absurd h
+  plain_job : (j : Job) → T (not (has_kind Kind.Mixed j)) → (if is_job j then length_by s g.reflectors (mask_of j) else 0) ≤ greatest_length
+  plain_job Absent h = omega arith
+  plain_job (Counted left (Mask.Plain word) sent) h = plain_most word
+  plain_job (Counted left (Mask.Mixed high low) sent) h = absurd h
+  plain_job (Endless (Mask.Plain word) sent) h = plain_most word
+  plain_job (Endless (Mask.Mixed high low) sent) h = absurd h
 
-  either-job : (b : Bool) (mask : Mask) → (if b then length_by s g.reflectors mask else 0) ≤ greatest_mixed
-  either-job true mask = either-most mask
-  either-job false mask = omega arith
+  either_job : (b : Bool) (mask : Mask) → (if b then length_by s g.reflectors mask else 0) ≤ greatest_mixed
+  either_job true mask = either_most mask
+  either_job false mask = omega arith
 
 pub never_longer : NeverLonger
-never_longer s g t h = rw (sent_length_lem s g).words (plain-job s g t s.job h)
+never_longer s g t h = rw (sent_length_lem s g).words (plain_job s g t s.job h)
 
 pub mixed_never_longer : MixedNeverLonger
-mixed_never_longer s g t = rw (sent_length_lem s g).words (either-job s g t (is_job s.job) (mask_of s.job))
+mixed_never_longer s g t = rw (sent_length_lem s g).words (either_job s g t (is_job s.job) (mask_of s.job))
 
 -- a contour with any layer is such as the reader takes
 contour_acceptable : (s : State) (g : Scan) → Turning s g → (mask layer sent counter : ℕ) → T (mask_ok mask) → T (not (uncounted mask))
     → Acceptable (with_layer layer (fields_of s g mask sent counter))
 contour_acceptable s g t mask layer sent counter ok counted =
-    let n = fields-many s g mask sent counter in
+    let n = fields_many s g mask sent counter in
     record {
       mask = ok;
       some_sector = omega (arith, n, some_one (active_of s.working) (measuring s g t).plan.valid.at_least_one);
-      few = omega (arith, n, eight-most s g t);
+      few = omega (arith, n, eight_most s g t);
       counted = counted;
       fits = fields_fit s g mask layer sent counter counted;
     }

@@ -24,8 +24,8 @@ a_step n zero h = let none = mul-zero n in absurd (omega arith)
 a_step n (suc step) h = omega arith
 
 module _ (way step : ℕ) where
-  pub one-more-fits : way < 65535 → way / step + 1 < 65536
-  one-more-fits h = omega (arith, div-le_self way step)
+  pub one_more_fits : way < 65535 → way / step + 1 < 65536
+  one_more_fits h = omega (arith, div-le_self way step)
 
   pub fewer : (left : ℕ) → 1 ≤ left → 0 < step → way ≤ (left - 1) * step → way / step + 1 ≤ left
   fewer left some p h =
@@ -33,13 +33,13 @@ module _ (way step : ℕ) where
       let q : way / step < left = (div-lt_iff_lt-mul p).1 below in
       omega arith
 
-  pub last-before : (direction : ℕ) → direction + way < circle → direction + (way / step + 1 - 1) * step < circle
-  last-before direction h =
+  pub last_before : (direction : ℕ) → direction + way < circle → direction + (way / step + 1 - 1) * step < circle
+  last_before direction h =
       let e : way / step + 1 - 1 ≡ way / step = omega arith in
       rw e (omega (arith, div-mul-le_self way step))
 
-  pub next-behind : (direction : ℕ) → 0 < step → circle ≤ direction + way + 1 → circle ≤ direction + (way / step + 1) * step
-  next-behind direction p h =
+  pub next_behind : (direction : ℕ) → 0 < step → circle ≤ direction + way + 1 → circle ≤ direction + (way / step + 1) * step
+  next_behind direction p h =
       let q : way / step < way / step + 1 = omega arith in
       omega (arith, (div-lt_iff_lt-mul p).0 q)
 
@@ -59,11 +59,11 @@ module _ {step direction i end : ℕ} (lap : Lap step direction i end) (more : i
       let e : end - i - 1 ≡ end - (i + 1) = omega arith in
       rw e at (one_more (end - i) step (omega arith))
 
-  pub in-lap : direction < circle
-  in-lap = omega (arith, lap.below, next)
+  pub in_lap : direction < circle
+  in_lap = omega (arith, lap.below, next)
 
-  pub lap-on : Lap step (direction + step) (i + 1) end
-  lap-on = record { ahead = omega arith; below = omega (arith, lap.below, next) }
+  pub lap_on : Lap step (direction + step) (i + 1) end
+  lap_on = record { ahead = omega arith; below = omega (arith, lap.below, next) }
 
 -- the points before point i stand in the buffer, and its direction is carried, 5760 taken off it or not yet
 pub record SoFar (mask step : ℕ) (g : Scan) (a : Arc) (d₀ d : List ℕ) (to carried i : ℕ) : Type 0 where
@@ -87,5 +87,5 @@ module _ {mask step : ℕ} {g : Scan} {a : Arc} where
           here = rw (e, add-mod-mod, ← mod-add-mod direction circle step, s.here, mod-add-mod) (ap (λ (n : ℕ). n % circle) (rw add-mul (omega arith)));
         }
 
-    pub taken-off : circle ≤ direction → SoFar mask step g a d₀ d to (direction - circle) i
-    taken-off h = record { put = s.put; here = sym (mod-eq-sub-mod h) ∙ s.here }
+    pub taken_off : circle ≤ direction → SoFar mask step g a d₀ d to (direction - circle) i
+    taken_off h = record { put = s.put; here = sym (mod-eq-sub-mod h) ∙ s.here }

@@ -25,7 +25,7 @@ use Rattle.profile.specs.Profiles.{Scan, arcs_of}
 use Rattle.profile.specs.Mixed.{dwords, reflector_words, reflectors_given, reflectors_of, mixed_of}
 use Rattle.profile.specs.Asked.{reflector_part_of}
 use Rattle.profile.specs.Revolutions.{reflectors_fit}
-use Rattle.profile.proofs.ProfileLengths.{one_word, shaped, contour-long, fields_fit}
+use Rattle.profile.proofs.ProfileLengths.{one_word, shaped, contour_long, fields_fit}
 
 -- the words of four, of a reflector, and of all of them
 four_long : (mask k : ℕ) (l : List ℕ) (from : ℕ) → length (dwords mask k l from) ≡ 4 * (if bit mask k then 1 else 0)
@@ -65,7 +65,7 @@ mixed_long s g high low sent counter =
     omega (
       arith,
       all,
-      contour-long s g m sent counter 1,
+      contour_long s g m sent counter 1,
       one_word (bit m bits.reflectors) (reflectors_given g.reflectors),
       reflectors_long m g.reflectors,
     )

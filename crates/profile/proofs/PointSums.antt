@@ -31,30 +31,30 @@ module _ (p : Plan) (step k sum : ℕ) where
   len : length (arcs step (active_of p)) ≡ length (active_of p)
   len = arcs_length step (last_stop 0 (active_of p)) 0 (active_of p)
 
-  pub points-end : (n : ℕ) → n ≡ length (active_of p)
+  pub points_end : (n : ℕ) → n ≡ length (active_of p)
       → sum + total (λ a. a.points) (drop k (arcs step (active_of p))) ≡ total (λ a. a.points) (arcs step (active_of p))
       → n ≤ k → sum ≡ total (λ a. a.points) (arcs step (active_of p))
-  points-end n e inv h = let l = len in omega (arith, rw (drop_of_length-le (arcs step (active_of p)) {i = k} (omega arith)) at inv)
+  points_end n e inv h = let l = len in omega (arith, rw (drop_of_length-le (arcs step (active_of p)) {i = k} (omega arith)) at inv)
 
   module _ (a : Arc) (ea : a ≡ arc_at p step k) (n : ℕ) (en : n ≡ length (active_of p)) (h : k < n) where
-    pub points-more : sum + total (λ a. a.points) (drop k (arcs step (active_of p))) ≡ total (λ a. a.points) (arcs step (active_of p))
+    pub points_more : sum + total (λ a. a.points) (drop k (arcs step (active_of p))) ≡ total (λ a. a.points) (arcs step (active_of p))
         → (sum + a.points) + total (λ a. a.points) (drop (k + 1) (arcs step (active_of p))) ≡ total (λ a. a.points) (arcs step (active_of p))
     unfolding arc_at
-    points-more inv =
+    points_more inv =
         let l = len in
         rw ea (omega (arith, rw (from_here (arcs step (active_of p)) k no_arc (omega arith)) at inv))
 
-    pub points-bound : sum ≤ k * circle → sum + a.points ≤ (k + 1) * circle
+    pub points_bound : sum ≤ k * circle → sum + a.points ≤ (k + 1) * circle
     unfolding arc_at
-    points-bound i =
+    points_bound i =
         let l = len in
         let few = arc_few step (last_stop 0 (active_of p)) 0 (active_of p) k in
         let most : (get_or (arcs step (active_of p)) k no_arc).points ≤ (get_or (arcs step (active_of p)) k no_arc).shots =
         each_at no_arc k (points_few step (last_stop 0 (active_of p)) 0 (active_of p)) (omega arith) in
         rw ea (omega arith)
 
-    pub points-fit : n ≤ 8 → sum ≤ k * circle → sum + a.points < 65536
-    points-fit l i = omega (arith, points-bound i)
+    pub points_fit : n ≤ 8 → sum ≤ k * circle → sum + a.points < 65536
+    points_fit l i = omega (arith, points_bound i)
 
 -- how many sectors are active is a word
 pub count_word : (l : List Sector) (n : ℕ) → length l ≡ 8 → n ≡ length (active l) → n < 65536

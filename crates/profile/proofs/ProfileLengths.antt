@@ -66,27 +66,27 @@ two_words false v w = refl
 
 module _ (s : State) (g : Scan) (mask sent counter : ℕ) where
   -- an arc for each active sector, and a sector of the profile for each arc
-  arcs-many : length (arcs_of s) ≡ length (active_of s.working)
-  arcs-many = arcs_length s.step.0 (last_stop 0 (active_of s.working)) 0 (active_of s.working)
+  arcs_many : length (arcs_of s) ≡ length (active_of s.working)
+  arcs_many = arcs_length s.step.0 (last_stop 0 (active_of s.working)) 0 (active_of s.working)
 
-  pub fields-many : length (fields_of s g mask sent counter).sectors ≡ length (active_of s.working)
-  fields-many = sectors_many mask s.step.0 (rate_of s) g 0 (arcs_of s) ∙ arcs-many
+  pub fields_many : length (fields_of s g mask sent counter).sectors ≡ length (active_of s.working)
+  fields_many = sectors_many mask s.step.0 (rate_of s) g 0 (arcs_of s) ∙ arcs_many
 
   -- the contour, whichever its layer
-  pub contour-long : (layer : ℕ)
+  pub contour_long : (layer : ℕ)
       → head_length + length (contour (with_layer layer (fields_of s g mask sent counter)))
       ≡ profile_length mask (length (active_of s.working)) (total (λ a. a.points) (arcs_of s))
   unfolding profile_length
-  contour-long layer =
-      let n = arcs-many in
+  contour_long layer =
+      let n = arcs_many in
       let e = sectors_long mask s.step.0 (rate_of s) g 0 (arcs_of s) in
       let t = two_words (bit mask bits.senstat) 0 (mode_number s.mode) in
       simp (length-append, one_word (bit mask bits.sent) sent, one_word (bit mask bits.counter) counter, one_word (bit mask bits.layer) layer, e, n)
       (omega (arith, t))
 
-  pub profile-long : length (layout (fields_of s g mask sent counter))
+  pub profile_long : length (layout (fields_of s g mask sent counter))
       ≡ profile_length mask (length (active_of s.working)) (total (λ a. a.points) (arcs_of s))
-  profile-long = length-append (head mask (length (fields_of s g mask sent counter).sectors)) (contour (fields_of s g mask sent counter)) ∙ contour-long 0
+  profile_long = length-append (head mask (length (fields_of s g mask sent counter).sectors)) (contour (fields_of s g mask sent counter)) ∙ contour_long 0
 
 -- the number of points goes with the words of points, where it is given or there are none
 counted_body : (mask points : ℕ) → T (not (uncounted mask))

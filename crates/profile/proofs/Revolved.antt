@@ -19,7 +19,7 @@ use Rattle.state.specs.Fields.{with_drive}
 use Rattle.state.specs.Ranges.{is_measure, job_ok, in_range}
 use Rattle.state.specs.Replies.{Result, refused, delivered, Unchanged}
 use Rattle.state.proofs.Delivery.{refused_unchanged, done, delivered_by, delivered_number}
-use Rattle.state.proofs.Parts.{parts, whole, drive-set, counter-set}
+use Rattle.state.proofs.Parts.{parts, whole, drive_set, counter_set}
 use Rattle.profile.specs.Profiles.{Scan}
 use Rattle.profile.specs.Revolutions.{risen, job_after, revolved, lists_fit, reflectors_fit, revolution_refusal, revolution_of}
 use Rattle.profile.specs.Demands.{RefusalsChangeNothing, RefusalsExactly, RangesKept}
@@ -110,5 +110,5 @@ ranges_kept s g room h =
     revolution_by (λ x. T (in_range x.reply.state)) s g room (λ _ _. h)
     (let p = parts s h in
     let job = job_after s.job in
-    let driven = drive-set s p s.mode s.running job p.running p.checks (job_kept s.mode s.job p.job) in
-    whole _ (counter-set (with_drive s s.mode s.running job) driven (risen s.counter)))
+    let driven = drive_set s p s.mode s.running job p.running p.checks (job_kept s.mode s.job p.job) in
+    whole _ (counter_set (with_drive s s.mode s.running job) driven (risen s.counter)))

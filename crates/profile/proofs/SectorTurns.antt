@@ -8,7 +8,7 @@ use lib.ListN.{length, get_or, take, drop, length-take, length-drop}
 use Rattle.words.specs.Words.{laid_all}
 use Rattle.words.specs.Buffers.{in_turn, Wrote, Put}
 use Rattle.words.proofs.Each.{each_at}
-use Rattle.words.proofs.Puts.{turn_first, turn-fits, turn-put, turns-all, lent-put}
+use Rattle.words.proofs.Puts.{turn_first, turn_fits, turn_put, turns_all, lent_put}
 use Rattle.layout.specs.Layout.{layout_sector}
 use Rattle.plan.specs.declared.Arc.{Arc}
 use Rattle.plan.specs.declared.Plan.{Plan}
@@ -45,17 +45,17 @@ module _ {mask step rate : ℕ} {g : Scan} {p : Plan} {from : ℕ} {d₀ : List 
   all_room = rw laid at asked.room
 
   module _ {d : List ℕ} {k to : ℕ} (so_far : Put (in_turn (sector_words mask step rate g p) k) d₀ from d to) (h : k < n) where
-    next-room : to + length (sector_words mask step rate g p k) ≤ length d
-    next-room = turn-fits (sector_words mask step rate g p) n all_room so_far h
+    next_room : to + length (sector_words mask step rate g p k) ≤ length d
+    next_room = turn_fits (sector_words mask step rate g p) n all_room so_far h
 
-    pub behind-sectors : to ≤ length d
-    behind-sectors = omega (arith, next-room)
+    pub behind_sectors : to ≤ length d
+    behind_sectors = omega (arith, next_room)
 
     module _ {a : Arc} (ea : a ≡ arc_at p step k) where
-      pub sector-asked : SectorAsked mask step rate g k a (take (length d - to) (drop to d))
+      pub sector_asked : SectorAsked mask step rate g k a (take (length d - to) (drop to d))
       unfolding arc_at
-      sector-asked =
-          let r = next-room in
+      sector_asked =
+          let r = next_room in
           rw ea
           record {
             arc = each_at no_arc k asked.arcs_in (omega (arith, many));
@@ -65,12 +65,12 @@ module _ {mask step rate : ℕ} {g : Scan} {p : Plan} {from : ℕ} {d₀ : List 
       module _ {part : List ℕ} {m : ℕ}
           (w : Wrote (layout_sector (sector_of mask step rate g k a)) (take (length d - to) (drop to d)) part m) where
         pub sector_fits : to + m ≤ length d
-        sector_fits = let r = rw (← ea) at next-room in omega (arith, w.counted)
+        sector_fits = let r = rw (← ea) at next_room in omega (arith, w.counted)
 
-        pub sector-more : Put (in_turn (sector_words mask step rate g p) (k + 1)) d₀ from
+        pub sector_more : Put (in_turn (sector_words mask step rate g p) (k + 1)) d₀ from
             (take to d ++ (part ++ drop (length d - to) (drop to d))) (to + m)
-        sector-more = turn-put (sector_words mask step rate g p) n all_room so_far (lent-put behind-sectors (rw ea at w))
+        sector_more = turn_put (sector_words mask step rate g p) n all_room so_far (lent_put behind_sectors (rw ea at w))
 
-  pub sectors-done : {d : List ℕ} {k to : ℕ} → Put (in_turn (sector_words mask step rate g p) k) d₀ from d to → k ≤ n → n ≤ k
+  pub sectors_done : {d : List ℕ} {k to : ℕ} → Put (in_turn (sector_words mask step rate g p) k) d₀ from d to → k ≤ n → n ≤ k
       → Put (sectors_words mask step rate g p) d₀ from d to
-  sectors-done so_far h l = rw laid (turns-all (sector_words mask step rate g p) n all_room so_far h l)
+  sectors_done so_far h l = rw laid (turns_all (sector_words mask step rate g p) n all_room so_far h l)

@@ -39,7 +39,7 @@ use Rattle.profile.specs.Revolutions.{revolution_refusal, revolution_of}
 use Rattle.profile.specs.Demands.{length_by}
 use Rattle.profile.specs.Asked.{ArcAsked, ProfileAsked, SendAsked, send_outcome, JobAsked}
 use Rattle.profile.proofs.PointSums.{if_most}
-use Rattle.profile.proofs.ProfileLengths.{profile-long}
+use Rattle.profile.proofs.ProfileLengths.{profile_long}
 use Rattle.profile.proofs.MixedLengths.{mixed_long, few_words}
 
 -- a job in its ranges can go on
@@ -68,7 +68,7 @@ arcs_asked g step before shot n (s ∷ ss) e few d h =
 
 -- how many words the profile has that a mask asks for
 pub by_long : (s : State) (g : Scan) (mask : Mask) (sent counter : ℕ) → length (profile_by s g mask sent counter) ≡ length_by s g.reflectors mask
-by_long s g (Mask.Plain word) sent counter = profile-long s g word sent counter
+by_long s g (Mask.Plain word) sent counter = profile_long s g word sent counter
 by_long s g (Mask.Mixed high low) sent counter = mixed_long s g high low sent counter
 
 -- the number of reflectors is a word
@@ -77,15 +77,15 @@ given_fits l h = omega arith
 
 -- `send`
 module _ {s : State} {g : Scan} (asked : SendAsked s g) where
-  pub send-turn : JobAsked s.job
-  send-turn = job_asked s.mode s.job (parts s asked.range).job
+  pub send_turn : JobAsked s.job
+  send_turn = job_asked s.mode s.job (parts s asked.range).job
 
-  pub few-reflectors : length g.reflectors ≤ 704
-  few-reflectors = few_words g asked.reflectors
+  pub few_reflectors : length g.reflectors ≤ 704
+  few_reflectors = few_words g asked.reflectors
 
-  pub profile-asked : (mask : Mask) (sent counter n : ℕ) (d : List ℕ) → n ≡ length_by s g.reflectors mask → n ≤ length d
+  pub profile_asked : (mask : Mask) (sent counter n : ℕ) (d : List ℕ) → n ≡ length_by s g.reflectors mask → n ≤ length d
       → ProfileAsked s g mask sent counter d
-  profile-asked mask sent counter n d en h =
+  profile_asked mask sent counter n d en h =
       let m = measures s asked.range asked.measures asked.eight in
       let step = s.step.0 in
       let ss = active_of s.working in
@@ -97,7 +97,7 @@ module _ {s : State} {g : Scan} (asked : SendAsked s g) where
         eight = asked.eight;
         arcs_in =
             arcs_asked g step (last_stop 0 ss) 0 shots ss (omega (arith, all)) (div-le_self circle step) (eqb→eq _ shots ds) (eqb→eq _ shots es);
-        few = few-reflectors;
+        few = few_reflectors;
         room = rw (by_long s g mask sent counter, ← en) h;
       }
 
@@ -147,15 +147,15 @@ module _ (s : State) (ds es rs : List ℕ) (start n : ℕ) (en : n ≡ revolutio
 
     -- by whether there is a job
     module _ {d : List ℕ} (b : Bool) (eb : b ≡ is_job s.job) where
-      pub no-profile : not b ≡ true → {next : State} → next ≡ turned s
+      pub no_profile : not b ≡ true → {next : State} → next ≡ turned s
           → Answered (reply next 0 0) d d (revolution_of s (scan_with start ds es rs) (length d))
       unfolding revolved
-      no-profile q e =
+      no_profile q e =
           let w : profile_of s (scan_with start ds es rs) s.job ≡ [] = rw (said_no eb q) in
           rw (goes_on, e) (has_room s (revolved s (scan_with start ds es rs)) d 0 (ap length w) (omega arith) d (rw w (sym (over_none d))))
 
-      pub with-profile : not b ≡ false → {mask : Mask} {sent : ℕ} {r : Reply} {d' : List ℕ} → mask ≡ mask_of s.job → sent ≡ sent_after s.job
+      pub with_profile : not b ≡ false → {mask : Mask} {sent : ℕ} {r : Reply} {d' : List ℕ} → mask ≡ mask_of s.job → sent ≡ sent_after s.job
           → Answered r d d' (delivered s (send_outcome s (scan_with start ds es rs) mask sent) (length d))
           → Answered r d d' (revolution_of s (scan_with start ds es rs) (length d))
       unfolding revolved
-      with-profile q em en sends = rw (goes_on, said_yes eb q) (rw (em, en) at sends)
+      with_profile q em en sends = rw (goes_on, said_yes eb q) (rw (em, en) at sends)

@@ -23,21 +23,21 @@ module _ (job : Job) where
   pub no_job : job ≡ Absent → Absent ≡ job_after job
   no_job j = rw j
 
-  pub endless-goes : (mask : Mask) (sent n : ℕ) → job ≡ Endless mask sent → n ≡ risen sent → Endless mask n ≡ job_after job
-  endless-goes mask sent n j e = rw (j, e)
+  pub endless_goes : (mask : Mask) (sent n : ℕ) → job ≡ Endless mask sent → n ≡ risen sent → Endless mask n ≡ job_after job
+  endless_goes mask sent n j e = rw (j, e)
 
   module _ (left : ℕ) (mask : Mask) (sent : ℕ) (j : job ≡ Counted left mask sent) where
-    pub job-ends : left ≡ 1 → Absent ≡ job_after job
-    job-ends h = rw (j, eq-eqb _ _ h)
+    pub job_ends : left ≡ 1 → Absent ≡ job_after job
+    job_ends h = rw (j, eq-eqb _ _ h)
 
-    pub job-goes : (left ≡ 1 → ⊥) → Counted (left - 1) mask (sent + 1) ≡ job_after job
-    job-goes h = rw (j, ne_eqb _ _ h)
+    pub job_goes : (left ≡ 1 → ⊥) → Counted (left - 1) mask (sent + 1) ≡ job_after job
+    job_goes h = rw (j, ne_eqb _ _ h)
 
     pub some_left : JobAsked job → 1 ≤ left
     some_left a = (rw j at a).0
 
-    pub can-rise : (n : ℕ) → n ≤ 1 → JobAsked job → sent + n < 65536
-    can-rise n h a = omega (arith, (rw j at a).1)
+    pub can_rise : (n : ℕ) → n ≤ 1 → JobAsked job → sent + n < 65536
+    can_rise n h a = omega (arith, (rw j at a).1)
 
 -- whether a number rises or not, it has room: that it does rise is for the result to say
 pub rises : 1 ≤ 1
@@ -48,14 +48,14 @@ stays = omega arith
 
 -- `sent_after`
 module _ (job : Job) where
-  pub none-sent : job ≡ Absent → 0 ≡ sent_after job
-  none-sent j = rw j
+  pub none_sent : job ≡ Absent → 0 ≡ sent_after job
+  none_sent j = rw j
 
-  pub one-more-sent : {left : ℕ} {mask : Mask} {sent : ℕ} → job ≡ Counted left mask sent → sent + 1 ≡ sent_after job
-  one-more-sent j = rw j
+  pub one_more_sent : {left : ℕ} {mask : Mask} {sent : ℕ} → job ≡ Counted left mask sent → sent + 1 ≡ sent_after job
+  one_more_sent j = rw j
 
-  pub risen-sent : {mask : Mask} (sent n : ℕ) → job ≡ Endless mask sent → n ≡ risen sent → n ≡ sent_after job
-  risen-sent sent n j e = rw (j, e)
+  pub risen_sent : {mask : Mask} (sent n : ℕ) → job ≡ Endless mask sent → n ≡ risen sent → n ≡ sent_after job
+  risen_sent sent n j e = rw (j, e)
 
 -- `turn`
 pub turned_so : (s d r : State) (j : Job) (n : ℕ) → j ≡ job_after s.job → d ≡ with_drive s s.mode s.running j → n ≡ risen s.counter
@@ -64,23 +64,23 @@ turned_so s d r j n ej ed en er = er ∙ rw (ed, ej, en)
 
 -- `revolution_refusal`
 module _ (s : State) (g : Scan) (a : Bool) (ea : a ≡ in_range s) where
-  pub no-range : not a ≡ true → 1 ≡ revolution_refusal s g
+  pub no_range : not a ≡ true → 1 ≡ revolution_refusal s g
   unfolding revolution_refusal
-  no-range q = rw (said_no ea q)
+  no_range q = rw (said_no ea q)
 
   module _ (qa : not a ≡ false) (b : Bool) (eb : b ≡ is_measure s.mode) where
-    pub no-measure : not b ≡ true → 7 ≡ revolution_refusal s g
+    pub no_measure : not b ≡ true → 7 ≡ revolution_refusal s g
     unfolding revolution_refusal
-    no-measure q = rw (said_yes ea qa, said_no eb q)
+    no_measure q = rw (said_yes ea qa, said_no eb q)
 
     module _ (qb : not b ≡ false) (n : ℕ) (en : n ≡ revolution_shots s.step.0) where
-      pub no-distances : (length g.distances ≡ n → ⊥) → 8 ≡ revolution_refusal s g
+      pub no_distances : (length g.distances ≡ n → ⊥) → 8 ≡ revolution_refusal s g
       unfolding revolution_refusal
-      no-distances h = rw (said_yes ea qa, said_yes eb qb, ← en, ne_eqb _ _ h)
+      no_distances h = rw (said_yes ea qa, said_yes eb qb, ← en, ne_eqb _ _ h)
 
-      pub no-echoes : length g.distances ≡ n → (length g.echoes ≡ n → ⊥) → 8 ≡ revolution_refusal s g
+      pub no_echoes : length g.distances ≡ n → (length g.echoes ≡ n → ⊥) → 8 ≡ revolution_refusal s g
       unfolding revolution_refusal
-      no-echoes d h = rw (said_yes ea qa, said_yes eb qb, ← en, eq-eqb _ _ d, ne_eqb _ _ h)
+      no_echoes d h = rw (said_yes ea qa, said_yes eb qb, ← en, eq-eqb _ _ d, ne_eqb _ _ h)
 
       module _ (d : length g.distances ≡ n) (h : length g.echoes ≡ n) where
         fitting : lists_fit s g ≡ true
@@ -95,6 +95,6 @@ module _ (s : State) (g : Scan) (a : Bool) (ea : a ≡ in_range s) where
           unfolding revolution_refusal
           too_many l = rw (said_yes ea qa, said_yes eb qb, fitting, eq-eqb _ _ whole, lt-leb _ _ l)
 
-          pub none-refuses : length g.reflectors / reflector_length ≤ most_reflectors → 0 ≡ revolution_refusal s g
+          pub none_refuses : length g.reflectors / reflector_length ≤ most_reflectors → 0 ≡ revolution_refusal s g
           unfolding revolution_refusal
-          none-refuses l = rw (said_yes ea qa, said_yes eb qb, fitting, eq-eqb _ _ whole, le-leb _ _ l)
+          none_refuses l = rw (said_yes ea qa, said_yes eb qb, fitting, eq-eqb _ _ whole, le-leb _ _ l)

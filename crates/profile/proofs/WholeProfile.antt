@@ -5,7 +5,7 @@ use Prim.Native.Nat.{ℕ, ◌+◌, ◌*◌, ◌≤◌}
 use native.Mathlib.Omega.{arith}
 use lib.ListN.{length, length-append}
 use Rattle.words.specs.Buffers.{Wrote, Put}
-use Rattle.words.proofs.Puts.{room, and-put, room-first, room-second, put_both}
+use Rattle.words.proofs.Puts.{room, and_put, room_first, room_second, put_both}
 use Rattle.units.specs.Directions.{revolution_shots}
 use Rattle.layout.specs.declared.Mask.{Mask}
 use Rattle.layout.specs.Layout.{head_length, head, contour, layout}
@@ -15,7 +15,7 @@ use Rattle.state.specs.declared.State.{State}
 use Rattle.state.specs.Modes.{mode_number}
 use Rattle.profile.specs.Profiles.{Scan, fields_of}
 use Rattle.profile.specs.Asked.{SectorsAsked, ContourAsked, ProfileAsked, contour_fields, sectors_words, front_words, status_words}
-use Rattle.profile.proofs.ProfileLengths.{fields-many}
+use Rattle.profile.proofs.ProfileLengths.{fields_many}
 
 -- what is asked of `write_contour`, with the rate of shots and the number of the mode as the code has them
 pub record ContourBegun (s : State) (g : Scan) (mask layer sent counter from : ℕ) (d₀ : List ℕ) (m rate status : ℕ) : Type 0 where
@@ -42,23 +42,23 @@ module _ {s : State} {g : Scan} {mask layer sent counter from : ℕ} {d₀ : Lis
   all = rw parts at b.asked.room
 
   two : from + length (front ++ middle) ≤ length d₀
-  two = room-first d₀ from (front ++ middle) end all
+  two = room_first d₀ from (front ++ middle) end all
 
-  pub front-room : from + length front ≤ length d₀
-  front-room = room-first d₀ from front middle two
+  pub front_room : from + length front ≤ length d₀
+  front_room = room_first d₀ from front middle two
 
   module _ {d₁ : List ℕ} {at₁ : ℕ} (fronted : Put front d₀ from d₁ at₁) where
-    pub sectors-asked : SectorsAsked mask s.step.0 rate g s.working at₁ d₁
-    sectors-asked =
-        record { eight = b.asked.eight; arcs_in = b.asked.arcs_in; room = room-second d₀ from front middle two fronted }
+    pub sectors_asked : SectorsAsked mask s.step.0 rate g s.working at₁ d₁
+    sectors_asked =
+        record { eight = b.asked.eight; arcs_in = b.asked.arcs_in; room = room_second d₀ from front middle two fronted }
 
     module _ {d₂ : List ℕ} {at₂ : ℕ} (filled : Put middle d₁ at₁ d₂ at₂) where
       both : Put (front ++ middle) d₀ from d₂ at₂
       both = put_both d₀ from front middle two fronted filled
 
-      pub status-room : at₂ + length end ≤ length d₂
-      status-room = room-second d₀ from (front ++ middle) end all both
+      pub status_room : at₂ + length end ≤ length d₂
+      status_room = room_second d₀ from (front ++ middle) end all both
 
-      pub contour-done : {d₃ : List ℕ} {r : ℕ} → Put end d₂ at₂ d₃ r
+      pub contour_done : {d₃ : List ℕ} {r : ℕ} → Put end d₂ at₂ d₃ r
           → Put (contour (contour_fields s g mask layer sent counter)) d₀ from d₃ r
-      contour-done p = rw parts (put_both d₀ from (front ++ middle) end all both p)
+      contour_done p = rw parts (put_both d₀ from (front ++ middle) end all both p)

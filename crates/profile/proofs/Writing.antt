@@ -5,7 +5,7 @@ use Prim.Native.Nat.{ℕ, ◌+◌, ◌-◌, ◌≤◌, ◌<◌}
 use native.Mathlib.Omega.{arith}
 use lib.ListN.{length, get_or, take, drop, length-append}
 use Rattle.words.specs.Buffers.{in_turn, Wrote, Put}
-use Rattle.words.proofs.Puts.{as_long, room, and-put, lent-room, and-lent, turn-fits, turns-all, put_first}
+use Rattle.words.proofs.Puts.{as_long, room, and_put, lent_room, and_lent, turn_fits, turns_all, put_first}
 use Rattle.units.specs.declared.Time.{Time}
 use Rattle.units.specs.Directions.{steps_past}
 use Rattle.units.specs.Times.{shot_time}
@@ -22,13 +22,13 @@ module _ (mask step : ℕ) (g : Scan) (a : Arc) (i to : ℕ) {d₀ d : List ℕ}
   unfolding points_of
   all_room = omega (arith, asked.room)
 
-  pub point-room : i < a.points → (dir : ℕ) → dir ≡ steps_past step i a.first.0
+  pub point_room : i < a.points → (dir : ℕ) → dir ≡ steps_past step i a.first.0
       → to + length (point_words mask (get_or g.distances (a.shot + i) 0) dir (get_or g.echoes (a.shot + i) 0)) ≤ length d
-  point-room h dir e = rw e (turn-fits (point_at mask step g a) a.points all_room so_far h)
+  point_room h dir e = rw e (turn_fits (point_at mask step g a) a.points all_room so_far h)
 
-  pub points-done : i ≤ a.points → a.points ≤ i → Wrote (points_of mask step g a) d₀ d to
+  pub points_done : i ≤ a.points → a.points ≤ i → Wrote (points_of mask step g a) d₀ d to
   unfolding points_of
-  points-done h k = put_first (turns-all (point_at mask step g a) a.points all_room so_far h k)
+  points_done h k = put_first (turns_all (point_at mask step g a) a.points all_room so_far h k)
 
 -- `write_sector`: what is asked, with the times of its first shot and of its last
 pub record SectorBegun (mask step rate : ℕ) (g : Scan) (number : ℕ) (a : Arc) (d₀ : List ℕ) (t u : Time) : Type 0 where
@@ -48,23 +48,23 @@ module _ {mask step rate : ℕ} {g : Scan} {number : ℕ} {a : Arc} {d₀ : List
       let h = simp length-append at b.asked.room in
       rw (b.first, b.last) (simp length-append (omega arith))
 
-  opening-fits : length opens ≤ length d₀
-  opening-fits = omega (arith, fits)
+  opening_fits : length opens ≤ length d₀
+  opening_fits = omega (arith, fits)
 
-  pub opening-room : 0 + length opens ≤ length d₀
-  opening-room = omega (arith, fits)
+  pub opening_room : 0 + length opens ≤ length d₀
+  opening_room = omega (arith, fits)
 
   module _ {d : List ℕ} {at : ℕ} (put : Put opens d₀ 0 d at) where
     opened : Wrote opens d₀ d at
     opened = put_first put
 
-    pub points-asked : PointsAsked mask step (scan 0 g.distances g.echoes) a (take (length d - at) (drop at d))
+    pub points_asked : PointsAsked mask step (scan 0 g.distances g.echoes) a (take (length d - at) (drop at d))
     unfolding points_of
-    points-asked =
+    points_asked =
         let c = b.asked.arc in
         record {
           arc = record { points = c.points; some_shot = c.some_shot; numbered = c.numbered; distances = c.distances; echoes = c.echoes };
-          room = rw (lent-room opened) (omega (arith, fits, as_long opened opening-fits, opened.counted));
+          room = rw (lent_room opened) (omega (arith, fits, as_long opened opening_fits, opened.counted));
         }
 
     module _ {part : List ℕ} {n : ℕ}
@@ -75,14 +75,14 @@ module _ {mask step rate : ℕ} {g : Scan} {number : ℕ} {a : Arc} {d₀ : List
 
       both : Wrote (opens ++ points_of mask step g a) d₀ back (at + n)
       unfolding points_of
-      both = and-lent opened filled
+      both = and_lent opened filled
 
-      pub behind-points : at + n ≤ length d₀
+      pub behind_points : at + n ≤ length d₀
       unfolding points_of
-      behind-points = omega (arith, fits, simp length-append at both.counted)
+      behind_points = omega (arith, fits, simp length-append at both.counted)
 
-      pub closing-room : at + n + length closes ≤ length back
-      closing-room = room both closes (rw length-append fits)
+      pub closing_room : at + n + length closes ≤ length back
+      closing_room = room both closes (rw length-append fits)
 
-      pub sector-done : {d' : List ℕ} {r : ℕ} → Put closes back (at + n) d' r → Wrote (layout_sector (sector_of mask step rate g number a)) d₀ d' r
-      sector-done p = rw (b.first, b.last) at (and-put both p)
+      pub sector_done : {d' : List ℕ} {r : ℕ} → Put closes back (at + n) d' r → Wrote (layout_sector (sector_of mask step rate g number a)) d₀ d' r
+      sector_done p = rw (b.first, b.last) at (and_put both p)

@@ -1,4 +1,6 @@
 // A revolution of the sensor, and the profile, plain or mixed, that it may send.
+#![tactic(auto)]
+
 mod by_mask;
 mod mixed;
 mod points;

@@ -63,14 +63,14 @@ number_of (Endless mask sent) = refl
 
 -- by the kind of the mask
 module _ (s : State) (g : Scan) (t : Turning s g) (ws : List ℕ) where
-  reads-by : (mask : Mask) → (job_numbers s.job).mask ≡ mask_number mask → T (admitted mask) → T (not (uncounted (job_numbers s.job).mask))
+  reads_by : (mask : Mask) → (job_numbers s.job).mask ≡ mask_number mask → T (admitted mask) → T (not (uncounted (job_numbers s.job).mask))
       → ws ≡ profile_by s g mask (sent_after s.job) (risen s.counter) → ReadsBy ws s g mask
-  reads-by (Mask.Plain word) e ok c p =
+  reads_by (Mask.Plain word) e ok c p =
       let sent = sent_after s.job in
       let counter = risen s.counter in
       let r = reads_back (fields_of s g word sent counter) (sent_acceptable s g t word sent counter ok (rw e at c)) in
       record { accepted = rw p r.0; fields = rw (p, e) r.1 }
-  reads-by (Mask.Mixed high low) e ok c p =
+  reads_by (Mask.Mixed high low) e ok c p =
       let sent = sent_after s.job in
       let counter = risen s.counter in
       let r = mixed_reads_back (mixed_of s g high low sent counter) (mixed_sent_acceptable s g t high low sent counter ok (rw e at c)) in
@@ -83,4 +83,4 @@ sent_is_read s g room eight z there c =
     let mask = mask_of s.job in
     let p : (revolution_of s g room).written ≡ profile_by s g mask (sent_after s.job) (risen s.counter) =
     writes s g room z ∙ rw (is_true {b = is_job s.job} there) in
-    reads-by s g t _ mask (number_of s.job) (mask_of_lem s.mode s.job (parts s t.range).job there) c p
+    reads_by s g t _ mask (number_of s.job) (mask_of_lem s.mode s.job (parts s t.range).job there) c p

@@ -17,7 +17,7 @@ use Rattle.state.specs.Ranges.{config_ok, in_range}
 use Rattle.services.proofs.Lawful.{Eight}
 use Rattle.sensor.specs.Requests.{request_of}
 use Rattle.sensor.specs.Demands.{numbers_for_no as requestNumbers}
-use Rattle.sensor.proofs.Lawful.{outcome-fine}
+use Rattle.sensor.proofs.Lawful.{outcome_fine}
 use Rattle.sensor.proofs.Demand1.{requested_by, refusals_exactly as request-number, ranges_kept as request-kept}
 use Rattle.profile.specs.Profiles.{Scan}
 use Rattle.profile.specs.Revolutions.{revolved, revolution_of}
@@ -27,7 +27,7 @@ use Rattle.promises.specs.Life.{Event, asks, turns, result_of, life, is_event, L
 use Rattle.promises.proofs.Exchanged.{sent_is_read}
 
 request_eight : (s : State) (ws : List ℕ) (room : ℕ) → Eight s → Eight (request_of s ws room).reply.state
-request_eight s ws room h = requested_by (λ x. Eight x.reply.state) s ws room (λ _. h) (λ _. (outcome-fine s ws).eight h)
+request_eight s ws room h = requested_by (λ x. Eight x.reply.state) s ws room (λ _. h) (λ _. (outcome_fine s ws).eight h)
 
 revolution_eight : (s : State) (g : Scan) (room : ℕ) → Eight s → Eight (revolution_of s g room).reply.state
 unfolding revolved

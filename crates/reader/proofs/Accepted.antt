@@ -20,7 +20,7 @@ use Rattle.reader.specs.Readings.{mask_in, count_in, head_refusal, Body, sectors
 use Rattle.reader.specs.Readings.{refused_reading, accepted_reading, with_left, end_of, ended, body_of, read_of}
 use Rattle.reader.proofs.Heads.{GoodHead, good_head}
 use Rattle.reader.proofs.Bodies.{body_lawful, sectors_ok_lem}
-use Rattle.reader.proofs.Readouts.{refused-head, read_whole}
+use Rattle.reader.proofs.Readouts.{refused_head, read_whole}
 
 -- what the body's format finds behind the first three words
 abbrev pub found_in : List ℕ → Got (Body SectorReading)
@@ -48,22 +48,22 @@ pub data Outcome (ws : List ℕ) : Reading → Type 0 where
 module _ (ws : List ℕ) where
   -- the reader refuses by the head, or gives what the body's format finds
   pub by_head : (head_refusal ws ≡ 0 → ⊥) → read_of ws ≡ refused_reading (head_refusal ws) Nowhere
-  by_head h = sym (refused-head ws (head_refusal ws) refl _ h refl)
+  by_head h = sym (refused_head ws (head_refusal ws) refl _ h refl)
 
   pub by_body : head_refusal ws ≡ 0 → {g : Got (Body SectorReading)} → found_in ws ≡ g → read_of ws ≡ ended (mask_in ws) (count_in ws) (end_of ws) g
   unfolding body_of
   by_body h e = sym (read_whole ws (head_refusal ws) refl _ h (sym (ap (ended (mask_in ws) (count_in ws) (end_of ws)) e)))
 
-  abbrev with-left : head_refusal ws ≡ 0 → {a : Body SectorReading} {b : ℕ} {rest : List ℕ} → found_in ws ≡ got a b rest → Parsed ws rest
-  with-left h {a} {b} e = record { head = good_head Kind.Plain ws h; value = a; place = b; parsed = e; reading = by_body h e }
+  abbrev with_left_lem : head_refusal ws ≡ 0 → {a : Body SectorReading} {b : ℕ} {rest : List ℕ} → found_in ws ≡ got a b rest → Parsed ws rest
+  with_left_lem h {a} {b} e = record { head = good_head Kind.Plain ws h; value = a; place = b; parsed = e; reading = by_body h e }
 
   pub outcome : Outcome ws (read_of ws)
   outcome = go (eqb (head_refusal ws) 0) refl
     where
       found : head_refusal ws ≡ 0 → (g : Got (Body SectorReading)) → found_in ws ≡ g → Outcome ws (ended (mask_in ws) (count_in ws) (end_of ws) g)
       found h short e = cut (good_head Kind.Plain ws h) e
-      found h (got a b []) e = whole (with-left h e)
-      found h (got a b (w ∷ rest)) e = over (with-left h e)
+      found h (got a b []) e = whole (with_left_lem h e)
+      found h (got a b (w ∷ rest)) e = over (with_left_lem h e)
 
       go : (t : Bool) → eqb (head_refusal ws) 0 ≡ t → Outcome ws (read_of ws)
       go false p = let h = eqb-false (head_refusal ws) 0 p in rw (by_head h) (refused h)
@@ -79,8 +79,8 @@ module _ (ws : List ℕ) where
       go (whole s) e = s
 
   -- a reading that has a sector is not refused
-  pub has-sector : 0 < (read_of ws).count → (read_of ws).refusal ≡ 0
-  has-sector = go outcome
+  pub has_sector : 0 < (read_of ws).count → (read_of ws).refusal ≡ 0
+  has_sector = go outcome
     where
       go : {r : Reading} → Outcome ws r → 0 < r.count → r.refusal ≡ 0
       go (refused h) e = absurd (omega arith)
@@ -106,9 +106,9 @@ many_read mask count W a o =
     sym (length-map (sectors_in a) ((sector mask).strip W)) ∙ all_length (sector mask).ok count _ (sectors_ok_lem mask count _ o)
 
 module _ {ws rest : List ℕ} (s : Parsed ws rest) where
-  pub body-sound : Sound (body (mask_in ws) (count_in ws)) ws head_length s.value s.place rest
-  body-sound = sound_of (body (mask_in ws) (count_in ws)) (body_lawful (mask_in ws) (count_in ws)) ws head_length s.parsed
+  pub body_sound : Sound (body (mask_in ws) (count_in ws)) ws head_length s.value s.place rest
+  body_sound = sound_of (body (mask_in ws) (count_in ws)) (body_lawful (mask_in ws) (count_in ws)) ws head_length s.parsed
 
   -- as many sectors as the third word says
-  pub many-sectors : length (sectors_in s.value) ≡ count_in ws
-  many-sectors = many_read (mask_in ws) (count_in ws) ws s.value body-sound.fits
+  pub many_sectors : length (sectors_in s.value) ≡ count_in ws
+  many_sectors = many_read (mask_in ws) (count_in ws) ws s.value body_sound.fits

@@ -42,14 +42,14 @@ body_lawful mask count = (body_extends mask count).lawful
 
 -- any lawful format, read from a place
 module _ {A F : Type 0} (c : Format A F) (lawful : Lawful c) (d : A) (ws : List ℕ) (i : ℕ) where
-  found-out : i ≤ length ws → (g : Got A) → SoundOf c ws i g → KeptOf i (drop i ws) g → g ≡ out_at ws 0 (value_of d g) (place_of ws g)
-  found-out h short s k = sym (past_out ws 0 d (length ws + 1) (omega arith))
-  found-out h (got a b ws') s k = sym (in_out ws 0 a b (omega (arith, length-drop i ws)) ∙ rw (zero-add b, s.rest))
+  found_out : i ≤ length ws → (g : Got A) → SoundOf c ws i g → KeptOf i (drop i ws) g → g ≡ out_at ws 0 (value_of d g) (place_of ws g)
+  found_out h short s k = sym (past_out ws 0 d (length ws + 1) (omega arith))
+  found_out h (got a b ws') s k = sym (in_out ws 0 a b (omega (arith, length-drop i ws)) ∙ rw (zero-add b, s.rest))
 
-  found-tracks : Tracks c ws 0 i (value_of d (from_place c ws i)) (place_of ws (from_place c ws i))
-  found-tracks =
+  found_tracks : Tracks c ws 0 i (value_of d (from_place c ws i)) (place_of ws (from_place c ws i))
+  found_tracks =
       record {
-        reads = λ h. rw (zero-add i, le-leb i (length ws) h) (found-out h (c.parse i (drop i ws)) (lawful.sound ws i) (lawful.kept i (drop i ws)));
+        reads = λ h. rw (zero-add i, le-leb i (length ws) h) (found_out h (c.parse i (drop i ws)) (lawful.sound ws i) (lawful.kept i (drop i ws)));
         sticks = λ h. rw (lt-leb i (length ws) h) (omega arith);
       }
 
@@ -77,21 +77,21 @@ sectors_inside mask count n a i = i.1.1.1.0
 
 module _ (first mask count : ℕ) (ws : List ℕ) (long : first ≤ length ws) where
   -- the body by places, and the place behind it
-  unfoldable by-places : (a : Body SectorReading) × (j : ℕ) × Tracks (body mask count) ws 0 first a j
-  by-places = (
+  unfoldable by_places : (a : Body SectorReading) × (j : ℕ) × Tracks (body mask count) ws 0 first a j
+  by_places = (
     _,
     _,
     optional_tracks (bit mask bits.sent) _ _ _ _ _ _ λ sent i₁.
         optional_tracks (bit mask bits.counter) _ _ _ _ _ _ λ counter i₂.
         optional_tracks (bit mask bits.layer) _ _ _ _ _ _ λ layer i₃.
-        join_tracks _ _ (found-tracks (times count (sector mask)) (sectors_extends mask count).lawful [] ws i₃) (
+        join_tracks _ _ (found_tracks (times count (sector mask)) (sectors_extends mask count).lawful [] ws i₃) (
         optional_tracks (bit mask bits.senstat) _ _ _ _ _ _ λ high i₄.
         optional_tracks (bit mask bits.senstat) _ _ _ _ _ _ λ low i₅.
         nothing_tracks _ _ i₅),
   )
 
-  read-by-places : (body mask count).parse first (drop first ws) ≡ out_at ws 0 by-places.0 by-places.1
-  read-by-places = rw zero-add at (by-places.2.reads long)
+  read_by_places : (body mask count).parse first (drop first ws) ≡ out_at ws 0 by_places.0 by_places.1
+  read_by_places = rw zero-add at (by_places.2.reads long)
 
   module _ (w : BodyWalk first mask count ws) where
     abbrev pub walked : Body SectorReading
@@ -100,10 +100,10 @@ module _ (first mask count : ℕ) (ws : List ℕ) (long : first ≤ length ws) w
         (w.sent.word, (w.counter.word, (w.layer.word, (list, (w.high.word, (w.low.word, tt))))))
 
     found : (body mask count).parse first (drop first ws) ≡ out_at ws 0 walked w.low.at
-    unfolding by-places
+    unfolding by_places
     found =
         rw (
-          read-by-places,
+          read_by_places,
           ← w.is_sent,
           ← w.is_counter,
           ← w.is_layer,
@@ -113,8 +113,8 @@ module _ (first mask count : ℕ) (ws : List ℕ) (long : first ≤ length ws) w
         )
 
     -- by the place behind the last word
-    pub found-short : length ws < w.low.at → (body mask count).parse first (drop first ws) ≡ short
-    found-short h = found ∙ past_out ws 0 walked w.low.at h
+    pub found_short : length ws < w.low.at → (body mask count).parse first (drop first ws) ≡ short
+    found_short h = found ∙ past_out ws 0 walked w.low.at h
 
-    pub found-whole : w.low.at ≤ length ws → (body mask count).parse first (drop first ws) ≡ got walked w.low.at (drop w.low.at ws)
-    found-whole h = found ∙ in_out ws 0 walked w.low.at h ∙ rw zero-add
+    pub found_whole : w.low.at ≤ length ws → (body mask count).parse first (drop first ws) ≡ got walked w.low.at (drop w.low.at ws)
+    found_whole h = found ∙ in_out ws 0 walked w.low.at h ∙ rw zero-add

@@ -21,7 +21,7 @@ use Rattle.reader.specs.declared.Part.TheVariants.{Head, Sector, Senstat}
 use Rattle.reader.specs.Sectors.{sector}
 use Rattle.reader.specs.Endings.{one_more_of, wholes}
 use Rattle.reader.specs.Places.{place_of, SectorsRead, part_by, head_from, whole_from, part_from, ContourRead}
-use Rattle.reader.proofs.Bodies.{BodyWalk, sectors_extends, walked, found-short, found-whole}
+use Rattle.reader.proofs.Bodies.{BodyWalk, sectors_extends, walked, found_short, found_whole}
 
 -- all are whole, or one of them is not
 abbrev Counted : {A : Type 0} → ℕ → ℕ → Got (List A) → Type 0
@@ -29,29 +29,29 @@ Counted n k short = k < n
 Counted n k (got xs b ws) = k ≡ n
 
 module _ {A : Type 0} (p : Parser A) where
-  one-counted : (n k : ℕ) (a : A) (g : Got (List A)) → Counted n k g → Counted (suc n) (suc k) (map_got (λ xs. a ∷ xs) g)
-  one-counted n k a short h = omega arith
-  one-counted n k a (got xs b ws) h = ap suc h
+  one_counted : (n k : ℕ) (a : A) (g : Got (List A)) → Counted n k g → Counted (suc n) (suc k) (map_got (λ xs. a ∷ xs) g)
+  one_counted n k a short h = omega arith
+  one_counted n k a (got xs b ws) h = ap suc h
 
-  more-counted : (n : ℕ) → ((b : ℕ) (ws : List ℕ) → Counted n (wholes n p b ws) (times_parse n p b ws)) → (g : Got A)
+  more_counted : (n : ℕ) → ((b : ℕ) (ws : List ℕ) → Counted n (wholes n p b ws) (times_parse n p b ws)) → (g : Got A)
       → Counted (suc n) (one_more_of g (wholes n p)) (after g (λ a b ws. map_got (λ xs. a ∷ xs) (times_parse n p b ws)))
-  more-counted n h short = omega arith
-  more-counted n h (got a b ws) = one-counted n (wholes n p b ws) a (times_parse n p b ws) (h b ws)
+  more_counted n h short = omega arith
+  more_counted n h (got a b ws) = one_counted n (wholes n p b ws) a (times_parse n p b ws) (h b ws)
 
   pub counted : (n b : ℕ) (ws : List ℕ) → Counted n (wholes n p b ws) (times_parse n p b ws)
   counted zero b ws = refl
-  counted (suc n) b ws = more-counted n (counted n) (p b ws)
+  counted (suc n) b ws = more_counted n (counted n) (p b ws)
 
 -- the ways out of the test by places
 module _ (len head sectors begun : ℕ) where
-  pub ends-in-head : len < head → Head ≡ part_by len head sectors begun
-  ends-in-head h = rw (lt-ltb len head h)
+  pub ends_in_head : len < head → Head ≡ part_by len head sectors begun
+  ends_in_head h = rw (lt-ltb len head h)
 
-  pub ends-in-sector : head ≤ len → len < sectors → Sector (begun - 1) ≡ part_by len head sectors begun
-  ends-in-sector h k = rw (le-ltb len head h, lt-ltb len sectors k)
+  pub ends_in_sector : head ≤ len → len < sectors → Sector (begun - 1) ≡ part_by len head sectors begun
+  ends_in_sector h k = rw (le-ltb len head h, lt-ltb len sectors k)
 
-  pub ends-in-senstat : head ≤ len → sectors ≤ len → Senstat ≡ part_by len head sectors begun
-  ends-in-senstat h k = rw (le-ltb len head h, le-ltb len sectors k)
+  pub ends_in_senstat : head ≤ len → sectors ≤ len → Senstat ≡ part_by len head sectors begun
+  ends_in_senstat h k = rw (le-ltb len head h, le-ltb len sectors k)
 
 -- a place that is n, or one past the end where n is further
 abbrev Reaches : List ℕ → ℕ → ℕ → Type 0
@@ -69,69 +69,69 @@ lands true ws n at r e h = go (ltb at (length ws)) refl
 
 module _ (first mask count : ℕ) (ws : List ℕ) (long : first ≤ length ws) (w : BodyWalk first mask count ws) where
   -- behind the head, or one past the end
-  behind-head : Reaches ws (head_from first mask) w.layer.at
-  behind-head =
+  behind_head : Reaches ws (head_from first mask) w.layer.at
+  behind_head =
       let sent = lands (bit mask bits.sent) ws first first _ w.is_sent (omega arith) in
       let counter = lands (bit mask bits.counter) ws _ _ _ w.is_counter sent in
       let layer = lands (bit mask bits.layer) ws _ _ _ w.is_layer counter in
       subst (λ (n : ℕ). Reaches ws n w.layer.at) (omega arith) layer
 
   -- the place reached is at most one past the end
-  pub end-within : w.low.at ≤ length ws + 1
-  end-within = took_within _ ws _ _ w.is_low (took_within _ ws _ _ w.is_high w.is_found.within)
+  pub end_within : w.low.at ≤ length ws + 1
+  end_within = took_within _ ws _ _ w.is_low (took_within _ ws _ _ w.is_high w.is_found.within)
 
   -- the words reach behind the head, and a sector was begun
-  pub some-begun : 1 ≤ count → w.layer.at ≤ length ws → 1 ≤ w.found.begun
-  some-begun some h = go (ltb (length ws) w.found.at) refl
+  pub some_begun : 1 ≤ count → w.layer.at ≤ length ws → 1 ≤ w.found.begun
+  some_begun some h = go (ltb (length ws) w.found.at) refl
     where
       go : (t : Bool) → ltb (length ws) w.found.at ≡ t → 1 ≤ w.found.begun
       go true e = omega (arith, w.is_found.cut h (ltb-true (length ws) w.found.at e))
       go false e = omega (arith, w.is_found.all h (ltb-false (length ws) w.found.at e))
 
   module _ (inside : head_from first mask ≤ length ws) where
-    head-place : w.layer.at ≡ head_from first mask
-    head-place = omega (arith, behind-head)
+    head_place : w.layer.at ≡ head_from first mask
+    head_place = omega (arith, behind_head)
 
     found_at : SectorsRead ws mask count (head_from first mask) w.found
-    found_at = subst (λ (at : ℕ). SectorsRead ws mask count at w.found) head-place w.is_found
+    found_at = subst (λ (at : ℕ). SectorsRead ws mask count at w.found) head_place w.is_found
 
-    behind-sectors : w.found.at ≡ place_of ws (times_parse count (sector mask).parse (head_from first mask) (drop (head_from first mask) ws))
-    behind-sectors = rw (le-leb (head_from first mask) (length ws) inside) at found_at.place
+    behind_sectors : w.found.at ≡ place_of ws (times_parse count (sector mask).parse (head_from first mask) (drop (head_from first mask) ws))
+    behind_sectors = rw (le-leb (head_from first mask) (length ws) inside) at found_at.place
 
     -- by what reading the sectors finds
-    in-sectors : (g : Got (List SectorReading)) → Counted count (whole_from first mask count ws) g
+    in_sectors : (g : Got (List SectorReading)) → Counted count (whole_from first mask count ws) g
         → KeptOf (head_from first mask) (drop (head_from first mask) ws) g → w.found.at ≡ place_of ws g
         → part_by (length ws) (head_from first mask) w.found.at w.found.begun ≡ part_from first mask count ws
     unfolding part_from
-    in-sectors short less kept e =
+    in_sectors short less kept e =
         let cut : length ws < w.found.at = omega arith in
         let begun = found_at.cut inside cut in
         let last : w.found.begun - 1 ≡ whole_from first mask count ws = omega arith in
-        sym (ends-in-sector (length ws) (head_from first mask) w.found.at w.found.begun inside cut)
+        sym (ends_in_sector (length ws) (head_from first mask) w.found.at w.found.begun inside cut)
         ∙ rw (le-ltb (length ws) (head_from first mask) inside, lt-ltb (whole_from first mask count ws) count less, last)
-    in-sectors (got xs b ws') all kept e =
+    in_sectors (got xs b ws') all kept e =
         let behind : w.found.at ≤ length ws = omega (arith, length-drop (head_from first mask) ws) in
-        sym (ends-in-senstat (length ws) (head_from first mask) w.found.at w.found.begun inside behind)
+        sym (ends_in_senstat (length ws) (head_from first mask) w.found.at w.found.begun inside behind)
         ∙ rw (le-ltb (length ws) (head_from first mask) inside, le-ltb (whole_from first mask count ws) count (omega arith))
 
   -- the part by places is the first that is not whole
-  pub end-part : part_by (length ws) w.layer.at w.found.at w.found.begun ≡ part_from first mask count ws
+  pub end_part : part_by (length ws) w.layer.at w.found.at w.found.begun ≡ part_from first mask count ws
   unfolding part_from
-  end-part = go (ltb (length ws) (head_from first mask)) refl
+  end_part = go (ltb (length ws) (head_from first mask)) refl
     where
       go : (t : Bool) → ltb (length ws) (head_from first mask) ≡ t
           → part_by (length ws) w.layer.at w.found.at w.found.begun ≡ part_from first mask count ws
       go true e =
           let h = ltb-true (length ws) (head_from first mask) e in
-          rw (e, lt-ltb (length ws) w.layer.at (omega (arith, behind-head)))
+          rw (e, lt-ltb (length ws) w.layer.at (omega (arith, behind_head)))
       go false e =
           let h = ltb-false (length ws) (head_from first mask) e in
           let read = times_parse count (sector mask).parse (head_from first mask) (drop (head_from first mask) ws) in
-          rw (head-place h)
-          (in-sectors h read (counted (sector mask).parse count _ _) ((sectors_extends mask count).lawful.kept _ _) (behind-sectors h))
+          rw (head_place h)
+          (in_sectors h read (counted (sector mask).parse count _ _) ((sectors_extends mask count).lawful.kept _ _) (behind_sectors h))
 
   -- what the walk finds is the contour, or the part at which it ends
-  pub contour-read : {p : Part} → p ≡ part_by (length ws) w.layer.at w.found.at w.found.begun
+  pub contour_read : {p : Part} → p ≡ part_by (length ws) w.layer.at w.found.at w.found.begun
       → ContourRead ws first mask count (record {
         at = w.low.at;
         part = p;
@@ -142,12 +142,12 @@ module _ (first mask count : ℕ) (ws : List ℕ) (long : first ≤ length ws) (
         high = w.high.word;
         low = w.low.word;
       })
-  contour-read e =
+  contour_read e =
       record {
         whole =
             λ h. record {
               value = walked first mask count ws long w;
-              found = found-whole first mask count ws long w h;
+              found = found_whole first mask count ws long w h;
               sent = refl;
               counter = refl;
               layer = refl;
@@ -155,5 +155,5 @@ module _ (first mask count : ℕ) (ws : List ℕ) (long : first ≤ length ws) (
               high = refl;
               low = refl;
             };
-        cut = λ h. record { place = omega (arith, end-within); found = found-short first mask count ws long w h; part = e ∙ end-part };
+        cut = λ h. record { place = omega (arith, end_within); found = found_short first mask count ws long w h; part = e ∙ end_part };
       }

@@ -23,25 +23,25 @@ all_mapped ok f (suc n) (x ∷ xs) o = this o.0 (all_mapped ok f n xs o.1)
 
 module _ (ws : List ℕ) (mask count first : ℕ) {value : Body SectorReading} {end : ℕ} {rest : List ℕ}
     (parsed : (body mask count).parse first (drop first ws) ≡ got value end rest) where
-  pub found-sound : Sound (body mask count) ws first value end rest
-  found-sound = sound_of (body mask count) (body_lawful mask count) ws first parsed
+  pub found_sound : Sound (body mask count) ws first value end rest
+  found_sound = sound_of (body mask count) (body_lawful mask count) ws first parsed
 
-  pub found-kept : end + length rest ≡ first + length (drop first ws)
-  found-kept = subst (KeptOf first (drop first ws)) parsed ((body_lawful mask count).kept first (drop first ws))
+  pub found_kept : end + length rest ≡ first + length (drop first ws)
+  found_kept = subst (KeptOf first (drop first ws)) parsed ((body_lawful mask count).kept first (drop first ws))
 
-  pub found-many : length (sectors_in value) ≡ count
-  found-many = many_read mask count ws value found-sound.fits
+  pub found_many : length (sectors_in value) ≡ count
+  found_many = many_read mask count ws value found_sound.fits
 
   -- the entries of a reading are the sectors found
   pub found_all : take count (padded (sectors_in value)) ≡ sectors_in value
-  found_all = entries_read (sectors_in value) count found-many
+  found_all = entries_read (sectors_in value) count found_many
 
   pub found_at : (place : ℕ) → place < count → get_or (padded (sectors_in value)) place blank_sector ≡ get_or (sectors_in value) place blank_sector
   found_at place here =
-      get_or-append (sectors_in value) (replicate (8 - length (sectors_in value)) blank_sector) blank_sector place (omega (arith, found-many))
+      get_or-append (sectors_in value) (replicate (8 - length (sectors_in value)) blank_sector) blank_sector place (omega (arith, found_many))
 
   pub found_ok : (place : ℕ) → place < count → (sector mask).ok ((sector mask).strip ws (get_or (padded (sectors_in value)) place blank_sector))
   found_ok place here =
       rw (found_at place here)
-      (each_at blank_sector place (all_mapped (sector mask).ok ((sector mask).strip ws) count (sectors_in value) (sectors_ok_lem mask count _ found-sound.fits))
-      (omega (arith, found-many)))
+      (each_at blank_sector place (all_mapped (sector mask).ok ((sector mask).strip ws) count (sectors_in value) (sectors_ok_lem mask count _ found_sound.fits))
+      (omega (arith, found_many)))

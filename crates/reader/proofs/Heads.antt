@@ -46,8 +46,8 @@ by_tests Kind.Plain ws = refl
 by_tests Kind.Mixed ws = refl
 
 module _ (kind : Kind) (ws : List ℕ) where
-  abbrev enoughFor : Bool
-  enoughFor = leb (kind_numbers kind).first (length ws)
+  abbrev enough_for : Bool
+  enough_for = leb (kind_numbers kind).first (length ws)
 
   -- the ways out, in the order of the tests
   pub empty : length ws ≡ 0 → 12 ≡ head_refusal_for kind ws
@@ -65,40 +65,40 @@ module _ (kind : Kind) (ws : List ℕ) where
       too_few h = sym (by_tests kind ws ∙ rw (begun, ← eh, lt-leb head (length ws) h))
 
       module _ (long : head ≤ length ws) (mask : ℕ) (em : mask ≡ mask_for kind ws) where
-        enough : enoughFor ≡ true
+        enough : enough_for ≡ true
         enough = rw (← eh, le-leb head (length ws) long)
 
-        pub bad-mask : kind_ok kind mask ≡ false → 22 ≡ head_refusal_for kind ws
-        bad-mask h = sym (by_tests kind ws ∙ rw (begun, enough, ← em, h))
+        pub bad_mask : kind_ok kind mask ≡ false → 22 ≡ head_refusal_for kind ws
+        bad_mask h = sym (by_tests kind ws ∙ rw (begun, enough, ← em, h))
 
         module _ (good : kind_ok kind mask ≡ true) (info : ℕ) (ei : info ≡ info_for kind ws) where
-          pub bad-layers : layers_ok info ≡ false → 23 ≡ head_refusal_for kind ws
-          bad-layers h = sym (by_tests kind ws ∙ rw (begun, enough, ← em, good, ← ei, h))
+          pub bad_layers : layers_ok info ≡ false → 23 ≡ head_refusal_for kind ws
+          bad_layers h = sym (by_tests kind ws ∙ rw (begun, enough, ← em, good, ← ei, h))
 
           module _ (layers : layers_ok info ≡ true) where
-            pub bad-sectors : sectors_ok info ≡ false → 24 ≡ head_refusal_for kind ws
-            bad-sectors h = sym (by_tests kind ws ∙ rw (begun, enough, ← em, good, ← ei, layers, h))
+            pub bad_sectors : sectors_ok info ≡ false → 24 ≡ head_refusal_for kind ws
+            bad_sectors h = sym (by_tests kind ws ∙ rw (begun, enough, ← em, good, ← ei, layers, h))
 
             module _ (sectors : sectors_ok info ≡ true) where
-              last-test : {t : Bool} → t ≡ uncounted mask → (if t then 14 else 0) ≡ head_refusal_for kind ws
-              last-test {t} e = sym (by_tests kind ws ∙ rw (begun, enough, ← em, good, ← ei, layers, sectors, ← e))
+              last_test : {t : Bool} → t ≡ uncounted mask → (if t then 14 else 0) ≡ head_refusal_for kind ws
+              last_test {t} e = sym (by_tests kind ws ∙ rw (begun, enough, ← em, good, ← ei, layers, sectors, ← e))
 
               pub no_number : {t : Bool} → t ≡ uncounted mask → t ≡ true → 14 ≡ head_refusal_for kind ws
-              no_number e h = last-test (sym h ∙ e)
+              no_number e h = last_test (sym h ∙ e)
 
               pub passed : {t : Bool} → t ≡ uncounted mask → t ≡ false → 0 ≡ head_refusal_for kind ws
-              passed e h = last-test (sym h ∙ e)
+              passed e h = last_test (sym h ∙ e)
 
 -- `mask_in` and `info_in`: what is so of the kind that the match finds
 module _ (kind k : Kind) (ws : List ℕ) (e : kind ≡ k) where
-  pub kind-has : (i : ℕ) → (kind_numbers kind).first ≤ length ws → i < (kind_numbers k).first → i < length ws
-  kind-has i h l = let long = rw e at h in omega arith
+  pub kind_has : (i : ℕ) → (kind_numbers kind).first ≤ length ws → i < (kind_numbers k).first → i < length ws
+  kind_has i h l = let long = rw e at h in omega arith
 
-  pub mask-there : (r : ℕ) → r ≡ mask_for k ws → r ≡ mask_for kind ws
-  mask-there r h = rw e h
+  pub mask_there : (r : ℕ) → r ≡ mask_for k ws → r ≡ mask_for kind ws
+  mask_there r h = rw e h
 
-  pub info-there : (r : ℕ) → r ≡ info_for k ws → r ≡ info_for kind ws
-  info-there r h = rw e h
+  pub info_there : (r : ℕ) → r ≡ info_for k ws → r ≡ info_for kind ws
+  info_there r h = rw e h
 
 -- `head_refusal`
 pub long_enough : (head : ℕ) (kind : Kind) (ws : List ℕ) → head ≡ (kind_numbers kind).first → head ≤ length ws
@@ -164,20 +164,20 @@ good_passes kind ws g =
     some_first Kind.Mixed = omega arith
 
 module _ (kind : Kind) (ws : List ℕ) (e : head_refusal_for kind ws ≡ 0) where
-  pub head-long : (kind_numbers kind).first ≤ length ws
-  head-long = (good_head kind ws e).long
+  pub head_long : (kind_numbers kind).first ≤ length ws
+  head_long = (good_head kind ws e).long
 
-  pub head-some : 1 ≤ info_for kind ws % 256
-  head-some = (good_head kind ws e).some_sector
+  pub head_some : 1 ≤ info_for kind ws % 256
+  head_some = (good_head kind ws e).some_sector
 
   pub head_few : info_for kind ws % 256 ≤ 8
   head_few = (good_head kind ws e).few
 
-  pub head-has : (i : ℕ) → i < (kind_numbers kind).first → i < length ws
-  head-has i h = omega (arith, head-long)
+  pub head_has : (i : ℕ) → i < (kind_numbers kind).first → i < length ws
+  head_has i h = omega (arith, head_long)
 
-  pub head-behind : (kind_numbers kind).first ≤ length ws + 1
-  head-behind = omega (arith, head-long)
+  pub head_behind : (kind_numbers kind).first ≤ length ws + 1
+  head_behind = omega (arith, head_long)
 
 -- the head gives no number of the body's
 abbrev pub not_body : ℕ → Bool
@@ -215,10 +215,10 @@ four (x ∷ y ∷ z ∷ v ∷ ws) h = refl
 
 pub head_front : (kind : Kind) (ws more : List ℕ) → (kind_numbers kind).first ≤ length ws → head_refusal_for kind (ws ++ more) ≡ head_refusal_for kind ws
 unfolding head_refusal mixed_head_refusal
-head_front Kind.Plain ws more h = rw (three ws h) (simp three-long)
+head_front Kind.Plain ws more h = rw (three ws h) (simp three_long)
   where
-    three-long : (n : ℕ) → leb head_length (suc (suc (suc n))) ≡ true
-    three-long n = le-leb head_length (suc (suc (suc n))) (omega arith)
+    three_long : (n : ℕ) → leb head_length (suc (suc (suc n))) ≡ true
+    three_long n = le-leb head_length (suc (suc (suc n))) (omega arith)
 head_front Kind.Mixed ws more h = rw (four ws h) (simp four_long)
   where
     four_long : (n : ℕ) → leb mixed_head_length (suc (suc (suc (suc n)))) ≡ true

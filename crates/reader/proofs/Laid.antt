@@ -98,14 +98,14 @@ body_ok f w = (w.sent, (w.counter, (w.layer, (each_all (each_map (sector_ok_lem 
 
 -- a contour that stands at a place is read back
 module _ (f : Fields) (w : Fits f) (W : List ℕ) (b : ℕ) (post : List ℕ) where
-  pub contour-back : drop b W ≡ contour f ++ post → Complete (body f.mask (length f.sectors)) W b (body_fields f) post
-  contour-back e =
+  pub contour_back : drop b W ≡ contour f ++ post → Complete (body f.mask (length f.sectors)) W b (body_fields f) post
+  contour_back e =
       let n = length f.sectors in
       (body_lawful f.mask n).complete W b (body_fields f) post (body_ok f w) (e ∙ ap (λ (ws : List ℕ). ws ++ post) (rest_put f.mask n f))
 
   -- with as many sectors
-  pub many-back : (c : Complete (body f.mask (length f.sectors)) W b (body_fields f) post) → length (sectors_in c.value) ≡ length f.sectors
-  many-back c =
+  pub many_back : (c : Complete (body f.mask (length f.sectors)) W b (body_fields f) post) → length (sectors_in c.value) ≡ length f.sectors
+  many_back c =
       sym (length-map (sectors_in c.value) ((sector f.mask).strip W)) ∙ ap (λ (t : Body SectorFields). length (sectors_in t)) c.same
 
 -- of the eight entries, those that were read
@@ -163,9 +163,9 @@ module _ (f : Fields) (w : Acceptable f) where
   pub counts : (one_layer + length f.sectors) % 256 ≡ length f.sectors
   counts = let h : length f.sectors ≤ 8 = w.few in omega arith
 
-  pub head-laid : (kind : Kind) (ws : List ℕ) → (kind_numbers kind).first ≤ length ws → get_or ws 0 0 ≡ (kind_numbers kind).code
+  pub head_laid : (kind : Kind) (ws : List ℕ) → (kind_numbers kind).first ≤ length ws → get_or ws 0 0 ≡ (kind_numbers kind).code
       → f.mask ≡ mask_for kind ws → T (kind_ok kind f.mask) → one_layer + length f.sectors ≡ info_for kind ws → head_refusal_for kind ws ≡ 0
-  head-laid kind ws long first mask ok info =
+  head_laid kind ws long first mask ok info =
       good_passes kind ws
       (record {
         long = long;

@@ -15,8 +15,8 @@ abbrev pub number_by : ℕ → ℕ → ℕ → ℕ
 number_by refusal many place = if eqb refusal 0 then (if ltb place many then 0 else 17) else refusal
 
 module _ (refusal many place : ℕ) where
-  pub refused-first : (refusal ≡ 0 → ⊥) → refusal ≡ number_by refusal many place
-  refused-first h = rw (ne_eqb refusal 0 h)
+  pub refused_first : (refusal ≡ 0 → ⊥) → refusal ≡ number_by refusal many place
+  refused_first h = rw (ne_eqb refusal 0 h)
 
   module _ (e : refusal ≡ 0) where
     pub is_below : place < many → 0 ≡ number_by refusal many place
@@ -33,9 +33,9 @@ abbrev pub start_by : ℕ → ℕ → ℕ → ℕ
 start_by many place start = if ltb place many then start else 0
 
 module _ (words : Bor (List ℕ)) (many place start len : ℕ) (part : Bor (List ℕ)) where
-  pub part-lent : place < many → part.now ≡ take (start + len - start) (drop start words.now) → part.ref_ptr ≡ (words.ref_ptr.0, start * 2 + words.ref_ptr.1)
+  pub part_lent : place < many → part.now ≡ take (start + len - start) (drop start words.now) → part.ref_ptr ≡ (words.ref_ptr.0, start * 2 + words.ref_ptr.1)
       → Lends words (lent_by many place start len words.now) (start_by many place start) part
-  part-lent h e p = rw (lt-ltb place many h) (record { lends = e ∙ rw add-sub_cancel_left; stands = p })
+  part_lent h e p = rw (lt-ltb place many h) (record { lends = e ∙ rw add-sub_cancel_left; stands = p })
 
   pub none_lent : many ≤ place → part.now ≡ [] → part.ref_ptr ≡ (words.ref_ptr.0, 0 * 2 + words.ref_ptr.1)
       → Lends words (lent_by many place start len words.now) (start_by many place start) part

@@ -79,30 +79,30 @@ pub data MixedOutcome (ws : List ℕ) : MixedReading → Type 0 where
 
 -- the steps, one after another, by what each finds
 module _ (ws : List ℕ) where
-  pub by-mixed-head : (mixed_head_refusal ws ≡ 0 → ⊥) → read_mixed_of ws ≡ refused_mixed (mixed_head_refusal ws) Nowhere
+  pub by_mixed_head : (mixed_head_refusal ws ≡ 0 → ⊥) → read_mixed_of ws ≡ refused_mixed (mixed_head_refusal ws) Nowhere
   unfolding read_mixed_of
-  by-mixed-head h = rw (ne_eqb (mixed_head_refusal ws) 0 h)
+  by_mixed_head h = rw (ne_eqb (mixed_head_refusal ws) 0 h)
 
-  pub by-contour : mixed_head_refusal ws ≡ 0 → {g : Got (Body SectorReading)} → contour_found ws ≡ g → read_mixed_of ws ≡ with_contour ws g
+  pub by_contour : mixed_head_refusal ws ≡ 0 → {g : Got (Body SectorReading)} → contour_found ws ≡ g → read_mixed_of ws ≡ with_contour ws g
   unfolding read_mixed_of mixed_body_of
-  by-contour h e = rw (eq-eqb (mixed_head_refusal ws) 0 h) (ap (with_contour ws) e)
+  by_contour h e = rw (eq-eqb (mixed_head_refusal ws) 0 h) (ap (with_contour ws) e)
 
   pub by_count : {rest : List ℕ} (s : ContourParsed ws rest) {g : Got Word} → count_found ws s.place rest ≡ g
       → read_mixed_of ws ≡ with_count ws s.value g
-  by_count s e = by-contour s.head s.parsed ∙ ap (with_count ws s.value) e
+  by_count s e = by_contour s.head s.parsed ∙ ap (with_count ws s.value) e
 
   module _ {rest : List ℕ} (s : CountParsed ws rest) where
     by_number : {t : Bool} → ltb most_reflectors (number_of s.number) ≡ t
         → read_mixed_of ws ≡ (if t then refused_mixed 27 Nowhere else with_reflectors ws s.contour.value s.number s.start rest)
     by_number e = by_count s.contour s.parsed ∙ rw e
 
-    pub by-many : most_reflectors < number_of s.number → read_mixed_of ws ≡ refused_mixed 27 Nowhere
-    by-many h = by_number (lt-ltb most_reflectors (number_of s.number) h)
+    pub by_many : most_reflectors < number_of s.number → read_mixed_of ws ≡ refused_mixed 27 Nowhere
+    by_many h = by_number (lt-ltb most_reflectors (number_of s.number) h)
 
     module _ (few : number_of s.number ≤ most_reflectors) where
-      pub by-short : length rest < reflector_words ws s.number
+      pub by_short : length rest < reflector_words ws s.number
           → read_mixed_of ws ≡ refused_mixed 15 (At (length ws) (Reflector (length rest / reflector_width (mixed_mask_in ws))))
-      by-short h =
+      by_short h =
           by_number (le-ltb most_reflectors (number_of s.number) few) ∙ rw (lt-leb (reflector_words ws s.number) (length rest) h)
 
       pub by_left : reflector_words ws s.number ≤ length rest → {more : List ℕ} → drop (reflector_words ws s.number) rest ≡ more
@@ -110,41 +110,41 @@ module _ (ws : List ℕ) where
       by_left h e =
           by_number (le-ltb most_reflectors (number_of s.number) few) ∙ rw (le-leb (reflector_words ws s.number) (length rest) h, e)
 
-  pub mixed-outcome : MixedOutcome ws (read_mixed_of ws)
-  mixed-outcome = at_head (eqb (mixed_head_refusal ws) 0) refl
+  pub mixed_outcome : MixedOutcome ws (read_mixed_of ws)
+  mixed_outcome = at_head (eqb (mixed_head_refusal ws) 0) refl
     where
-      at-end : {rest : List ℕ} (s : CountParsed ws rest) → number_of s.number ≤ most_reflectors → reflector_words ws s.number ≤ length rest
+      at_end : {rest : List ℕ} (s : CountParsed ws rest) → number_of s.number ≤ most_reflectors → reflector_words ws s.number ≤ length rest
           → (more : List ℕ) → drop (reflector_words ws s.number) rest ≡ more
           → MixedOutcome ws (mixed_left (accepted_mixed ws s.contour.value s.number s.start) more)
-      at-end s few there [] e =
+      at_end s few there [] e =
           whole (record { reflectors = _; count = s; few = few; there = there; left = e; reading = by_left s few there e })
-      at-end s few there (w ∷ more) e =
+      at_end s few there (w ∷ more) e =
           over (record { reflectors = _; count = s; few = few; there = there; left = e; reading = by_left s few there e })
 
-      at-reflectors : {rest : List ℕ} (s : CountParsed ws rest) → number_of s.number ≤ most_reflectors
+      at_reflectors : {rest : List ℕ} (s : CountParsed ws rest) → number_of s.number ≤ most_reflectors
           → (t : Bool) → leb (reflector_words ws s.number) (length rest) ≡ t → MixedOutcome ws (read_mixed_of ws)
-      at-reflectors s few false e = let h = leb-false _ _ e in rw (by-short s few h) (cut_reflectors s few h)
-      at-reflectors s few true e = let h = leb-true _ _ e in rw (by_left s few h refl) (at-end s few h _ refl)
+      at_reflectors s few false e = let h = leb-false _ _ e in rw (by_short s few h) (cut_reflectors s few h)
+      at_reflectors s few true e = let h = leb-true _ _ e in rw (by_left s few h refl) (at_end s few h _ refl)
 
-      at-number : {rest : List ℕ} (s : CountParsed ws rest) → (t : Bool) → ltb most_reflectors (number_of s.number) ≡ t
+      at_number : {rest : List ℕ} (s : CountParsed ws rest) → (t : Bool) → ltb most_reflectors (number_of s.number) ≡ t
           → MixedOutcome ws (read_mixed_of ws)
-      at-number s true e = let h = ltb-true most_reflectors (number_of s.number) e in rw (by-many s h) (too_many s h)
-      at-number s false e = at-reflectors s (ltb-false most_reflectors (number_of s.number) e) _ refl
+      at_number s true e = let h = ltb-true most_reflectors (number_of s.number) e in rw (by_many s h) (too_many s h)
+      at_number s false e = at_reflectors s (ltb-false most_reflectors (number_of s.number) e) _ refl
 
       at_count : {rest : List ℕ} (s : ContourParsed ws rest) (g : Got Word) → count_found ws s.place rest ≡ g → MixedOutcome ws (read_mixed_of ws)
       at_count s short e = rw (by_count s e) (cut_count s e)
-      at_count s (got n at rest) e = at-number (record { behind = _; contour = s; number = n; start = at; parsed = e }) _ refl
+      at_count s (got n at rest) e = at_number (record { behind = _; contour = s; number = n; start = at; parsed = e }) _ refl
 
-      at-contour : mixed_head_refusal ws ≡ 0 → (g : Got (Body SectorReading)) → contour_found ws ≡ g → MixedOutcome ws (read_mixed_of ws)
-      at-contour h short e = rw (by-contour h e) (cut_contour h e)
-      at-contour h (got a at rest) e = at_count (record { head = h; value = a; place = at; parsed = e }) _ refl
+      at_contour : mixed_head_refusal ws ≡ 0 → (g : Got (Body SectorReading)) → contour_found ws ≡ g → MixedOutcome ws (read_mixed_of ws)
+      at_contour h short e = rw (by_contour h e) (cut_contour h e)
+      at_contour h (got a at rest) e = at_count (record { head = h; value = a; place = at; parsed = e }) _ refl
 
       at_head : (t : Bool) → eqb (mixed_head_refusal ws) 0 ≡ t → MixedOutcome ws (read_mixed_of ws)
-      at_head false e = let h = eqb-false (mixed_head_refusal ws) 0 e in rw (by-mixed-head h) (refused h)
-      at_head true e = at-contour (eqb-true (mixed_head_refusal ws) 0 e) _ refl
+      at_head false e = let h = eqb-false (mixed_head_refusal ws) 0 e in rw (by_mixed_head h) (refused h)
+      at_head true e = at_contour (eqb-true (mixed_head_refusal ws) 0 e) _ refl
 
-  pub mixed-accepted : (read_mixed_of ws).refusal ≡ 0 → MixedAccepted ws
-  mixed-accepted = go mixed-outcome
+  pub mixed_accepted : (read_mixed_of ws).refusal ≡ 0 → MixedAccepted ws
+  mixed_accepted = go mixed_outcome
     where
       go : {r : MixedReading} → MixedOutcome ws r → r.refusal ≡ 0 → MixedAccepted ws
       go (refused h) e = absurd (h e)

@@ -31,9 +31,9 @@ module _ {A F : Type 0} (c : Format A F) (lawful : Lawful c) where
   one_more n h (got a b ws) short s = absurd s
   one_more n h (got a b ws) (got a' b' ws') s = ap suc (h b b' ws ∙ ap (wholes n c.parse b') s)
 
-  wholes-same : (n b b' : ℕ) (ws : List ℕ) → wholes n c.parse b ws ≡ wholes n c.parse b' ws
-  wholes-same zero b b' ws = refl
-  wholes-same (suc n) b b' ws = one_more n (wholes-same n) (c.parse b ws) (c.parse b' ws) (any_place c lawful b b' ws)
+  wholes_same : (n b b' : ℕ) (ws : List ℕ) → wholes n c.parse b ws ≡ wholes n c.parse b' ws
+  wholes_same zero b b' ws = refl
+  wholes_same (suc n) b b' ws = one_more n (wholes_same n) (c.parse b ws) (c.parse b' ws) (any_place c lawful b b' ws)
 
 same_test : (a b : ℕ) → ltb (suc a) (suc b) ≡ ltb a b
 same_test a b = go (ltb a b) refl
@@ -47,8 +47,8 @@ module _ (mask sectors : ℕ) (ws : List ℕ) (long : mixed_head_length ≤ leng
   one_fewer : length ws ≡ suc (length (plain_of ws))
   one_fewer = omega (arith, length-drop 3 ws)
 
-  same-behind : drop (head_words mask) (plain_of ws) ≡ drop (head_from mixed_head_length mask) ws
-  same-behind =
+  same_behind : drop (head_words mask) (plain_of ws) ≡ drop (head_from mixed_head_length mask) ws
+  same_behind =
       let bits = count (bit mask) bits.of_head in
       let more : head_words mask ≡ 2 + (1 + bits) = omega arith in
       let most : 3 + (1 + bits) ≡ head_from mixed_head_length mask = omega arith in
@@ -57,16 +57,16 @@ module _ (mask sectors : ℕ) (ws : List ℕ) (long : mixed_head_length ≤ leng
       ∙ drop-drop (1 + bits) 3 ws
       ∙ ap (λ (n : ℕ). drop n ws) most
 
-  same-wholes : whole_sectors mask sectors (plain_of ws) ≡ whole_from mixed_head_length mask sectors ws
-  same-wholes =
-      ap (wholes sectors (sector mask).parse (head_words mask)) same-behind
-      ∙ wholes-same (sector mask) (sector_lawful mask) sectors _ _ _
+  same_wholes : whole_sectors mask sectors (plain_of ws) ≡ whole_from mixed_head_length mask sectors ws
+  same_wholes =
+      ap (wholes sectors (sector mask).parse (head_words mask)) same_behind
+      ∙ wholes_same (sector mask) (sector_lawful mask) sectors _ _ _
 
   same_head : ltb (length (plain_of ws)) (head_words mask) ≡ ltb (length ws) (head_from mixed_head_length mask)
   same_head =
       let one : head_from mixed_head_length mask ≡ suc (head_words mask) = omega arith in
       rw (one_fewer, one, same_test)
 
-  pub contour-part : part_missing mask sectors (plain_of ws) ≡ part_from mixed_head_length mask sectors ws
+  pub contour_part : part_missing mask sectors (plain_of ws) ≡ part_from mixed_head_length mask sectors ws
   unfolding part_missing part_from
-  contour-part = rw (same_head, same-wholes)
+  contour_part = rw (same_head, same_wholes)

@@ -41,8 +41,8 @@ mixed_of ws b n xs =
 module _ (ws : List ℕ) (head : GoodHead Kind.Mixed ws) (b : Body SectorFields) (ok : (body (mixed_mask_in ws) (mixed_count_in ws)).ok b)
     (n : Word) (shaped : Shaped (bit (mixed_mask_in ws) bits.reflectors) n) (few : number_of n ≤ most_reflectors)
     (xs : List ℕ) (long : length xs ≡ reflector_words ws n) where
-  pub mixed-acceptable : MixedAcceptable (mixed_of ws b n xs)
-  mixed-acceptable =
+  pub mixed_acceptable : MixedAcceptable (mixed_of ws b n xs)
+  mixed_acceptable =
       let plain = acceptable Kind.Mixed ws head b ok in
       record {
         contour = plain;
@@ -52,10 +52,10 @@ module _ (ws : List ℕ) (head : GoodHead Kind.Mixed ws) (b : Body SectorFields)
       }
 
   -- words that go on so are laid out
-  pub mixed-laid : (more rest : List ℕ)
+  pub mixed_laid : (more rest : List ℕ)
       → drop mixed_head_length ws ++ more ≡ (body (mixed_mask_in ws) (mixed_count_in ws)).put b ++ (words_of n ++ (xs ++ rest))
       → ws ++ more ≡ layout_mixed (mixed_of ws b n xs) ++ rest
-  mixed-laid more rest e =
+  mixed_laid more rest e =
       let first = first_words Kind.Mixed ws (length (sectors_in b)) in
       let line = contour (fields_of (mixed_mask_in ws) b) in
       laid Kind.Mixed ws head b ok more (words_of n ++ (xs ++ rest)) e
@@ -64,29 +64,29 @@ module _ (ws : List ℕ) (head : GoodHead Kind.Mixed ws) (b : Body SectorFields)
 
 -- what a contour that is read has
 module _ {ws rest : List ℕ} (s : ContourParsed ws rest) where
-  pub contour-head : GoodHead Kind.Mixed ws
-  contour-head = good_head Kind.Mixed ws s.head
+  pub contour_head : GoodHead Kind.Mixed ws
+  contour_head = good_head Kind.Mixed ws s.head
 
-  pub contour-sound : Sound (body (mixed_mask_in ws) (mixed_count_in ws)) ws mixed_head_length s.value s.place rest
-  contour-sound =
+  pub contour_sound : Sound (body (mixed_mask_in ws) (mixed_count_in ws)) ws mixed_head_length s.value s.place rest
+  contour_sound =
       sound_of (body (mixed_mask_in ws) (mixed_count_in ws)) (body_lawful (mixed_mask_in ws) (mixed_count_in ws)) ws mixed_head_length s.parsed
 
-  abbrev pub contourRead : Body SectorFields
-  contourRead = (body (mixed_mask_in ws) (mixed_count_in ws)).strip ws s.value
+  abbrev pub contour_read : Body SectorFields
+  contour_read = (body (mixed_mask_in ws) (mixed_count_in ws)).strip ws s.value
 
 -- with the word of bit 16
 module _ {ws rest : List ℕ} (s : CountParsed ws rest) where
   abbrev on : Bool
   on = bit (mixed_mask_in ws) bits.reflectors
 
-  pub count-sound : Sound (one on) ws s.contour.place s.number s.start rest
-  count-sound = sound_of (one on) (one_lawful on) ws s.contour.place (rw (contour-sound s.contour).rest s.parsed)
+  pub count_sound : Sound (one on) ws s.contour.place s.number s.start rest
+  count_sound = sound_of (one on) (one_lawful on) ws s.contour.place (rw (contour_sound s.contour).rest s.parsed)
 
-  pub behind-words : drop mixed_head_length ws ≡ (body (mixed_mask_in ws) (mixed_count_in ws)).put (contourRead s.contour) ++ (words_of s.number ++ rest)
-  behind-words =
-      let c = contour-sound s.contour in
+  pub behind_words : drop mixed_head_length ws ≡ (body (mixed_mask_in ws) (mixed_count_in ws)).put (contour_read s.contour) ++ (words_of s.number ++ rest)
+  behind_words =
+      let c = contour_sound s.contour in
       c.words
-      ∙ ap (λ (l : List ℕ). (body (mixed_mask_in ws) (mixed_count_in ws)).put (contourRead s.contour) ++ l) (sym c.rest ∙ count-sound.words)
+      ∙ ap (λ (l : List ℕ). (body (mixed_mask_in ws) (mixed_count_in ws)).put (contour_read s.contour) ++ l) (sym c.rest ∙ count_sound.words)
 
 -- with the reflectors: what is read is laid out, before the words that are left
 module _ {ws rest : List ℕ} (s : MixedParsed ws rest) where
@@ -96,20 +96,20 @@ module _ {ws rest : List ℕ} (s : MixedParsed ws rest) where
   long : length (take k s.reflectors) ≡ k
   long = length-take-le k s.reflectors s.there
 
-  abbrev pub mixedFields : MixedFields
-  mixedFields = mixed_of ws (contourRead s.count.contour) s.count.number (take k s.reflectors)
+  abbrev pub mixed_fields : MixedFields
+  mixed_fields = mixed_of ws (contour_read s.count.contour) s.count.number (take k s.reflectors)
 
-  pub mixed_fit : MixedAcceptable mixedFields
+  pub mixed_fit : MixedAcceptable mixed_fields
   mixed_fit =
-      mixed-acceptable ws (contour-head s.count.contour) _ (contour-sound s.count.contour).fits s.count.number
-      (count-sound s.count).fits s.few _ long
+      mixed_acceptable ws (contour_head s.count.contour) _ (contour_sound s.count.contour).fits s.count.number
+      (count_sound s.count).fits s.few _ long
 
-  pub mixed-laid-out : ws ≡ layout_mixed mixedFields ++ rest
-  mixed-laid-out =
+  pub mixed_laid_out : ws ≡ layout_mixed mixed_fields ++ rest
+  mixed_laid_out =
       let split : s.reflectors ≡ take k s.reflectors ++ rest =
       sym (take-append-drop k s.reflectors) ∙ ap (λ (l : List ℕ). take k s.reflectors ++ l) s.left in
-      let words = append-nil _ ∙ behind-words s.count
-      ∙ ap (λ (l : List ℕ). (body (mixed_mask_in ws) (mixed_count_in ws)).put (contourRead s.count.contour) ++ (words_of s.count.number ++ l)) split in
+      let words = append-nil _ ∙ behind_words s.count
+      ∙ ap (λ (l : List ℕ). (body (mixed_mask_in ws) (mixed_count_in ws)).put (contour_read s.count.contour) ++ (words_of s.count.number ++ l)) split in
       sym (append-nil ws)
-      ∙ mixed-laid ws (contour-head s.count.contour) _ (contour-sound s.count.contour).fits s.count.number
-      (count-sound s.count).fits s.few _ long [] rest words
+      ∙ mixed_laid ws (contour_head s.count.contour) _ (contour_sound s.count.contour).fits s.count.number
+      (count_sound s.count).fits s.few _ long [] rest words

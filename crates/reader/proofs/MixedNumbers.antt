@@ -36,13 +36,13 @@ use Rattle.reader.proofs.HeadNumbers.{mixed_table}
 use Rattle.reader.proofs.Bodies.{body_extends}
 use Rattle.reader.proofs.Prefixes.{not_both}
 use Rattle.reader.proofs.MixedAccepted.{ContourParsed, CountParsed, MixedParsed, MixedOutcome, refused, cut_contour, cut_count, too_many}
-use Rattle.reader.proofs.MixedAccepted.{cut_reflectors, over, whole, contour_found, count_found, reflector_words, by-many, mixed-outcome}
+use Rattle.reader.proofs.MixedAccepted.{cut_reflectors, over, whole, contour_found, count_found, reflector_words, by_many, mixed_outcome}
 use Rattle.reader.proofs.Laid.{fields_of, acceptable, laid}
-use Rattle.reader.proofs.Readers.{over-laid, none_within}
-use Rattle.reader.proofs.Refusals.{GivenBy, by_head, by_body, by-table, words_first, not_below, below, none_lent}
-use Rattle.reader.proofs.MixedLaid.{mixed_of, mixed-acceptable, mixed-laid, contour-head, contour-sound, contourRead, count-sound, behind-words}
-use Rattle.reader.proofs.MixedLaid.{mixedFields, mixed_fit, mixed-laid-out}
-use Rattle.reader.proofs.MixedRoundTrip.{count-read, mixed-passes, mixed_reads}
+use Rattle.reader.proofs.Readers.{over_laid, none_within}
+use Rattle.reader.proofs.Refusals.{GivenBy, by_head, by_body, by_table, words_first, not_below, below, none_lent}
+use Rattle.reader.proofs.MixedLaid.{mixed_of, mixed_acceptable, mixed_laid, contour_head, contour_sound, contour_read, count_sound, behind_words}
+use Rattle.reader.proofs.MixedLaid.{mixed_fields, mixed_fit, mixed_laid_out}
+use Rattle.reader.proofs.MixedRoundTrip.{count_read, mixed_passes, mixed_reads}
 
 -- the word of bit 16, with a number that is not 0, is there
 number_there : (on : Bool) (n : Word) → Shaped on n → 0 < number_of n → T on × (words_of n ≡ number_of n ∷ [])
@@ -81,71 +81,71 @@ module _ (ws : List ℕ) where
   on = bit (mixed_mask_in ws) bits.reflectors
 
   -- behind a head that passes, a contour and no reflector
-  no-reflectors : GoodHead Kind.Mixed ws → (b : Body SectorFields) → (body (mixed_mask_in ws) (mixed_count_in ws)).ok b
+  no_reflectors : GoodHead Kind.Mixed ws → (b : Body SectorFields) → (body (mixed_mask_in ws) (mixed_count_in ws)).ok b
       → MixedAcceptable (mixed_of ws b (given_if on 0) [])
-  no-reflectors head b ok =
-      mixed-acceptable ws head b ok (given_if on 0) (none_shaped on) (none_few on) [] (none_long on _)
+  no_reflectors head b ok =
+      mixed_acceptable ws head b ok (given_if on 0) (none_shaped on) (none_few on) [] (none_long on _)
 
   -- words that go on so, to the end of a mixed profile, end early
-  ends-early : (head : GoodHead Kind.Mixed ws) (b : Body SectorFields) → (body (mixed_mask_in ws) (mixed_count_in ws)).ok b
+  ends_early : (head : GoodHead Kind.Mixed ws) (b : Body SectorFields) → (body (mixed_mask_in ws) (mixed_count_in ws)).ok b
       → (n : Word) → Shaped on n → number_of n ≤ most_reflectors → (xs : List ℕ) → length xs ≡ reflector_words ws n
       → (more : List ℕ) → T (some more)
       → drop mixed_head_length ws ++ more ≡ (body (mixed_mask_in ws) (mixed_count_in ws)).put b ++ (words_of n ++ xs)
       → MixedEndEarly ws
-  ends-early head b ok n shaped few xs long more t e =
+  ends_early head b ok n shaped few xs long more t e =
       let put = (body (mixed_mask_in ws) (mixed_count_in ws)).put b in
-      let words = mixed-laid ws head b ok n shaped few xs long more []
+      let words = mixed_laid ws head b ok n shaped few xs long more []
       (e ∙ ap (λ (l : List ℕ). put ++ (words_of n ++ l)) (sym (append-nil xs))) ∙ append-nil _ in
-      (head.long, (mixed_of ws b n xs, more, mixed-acceptable ws head b ok n shaped few xs long, t, words))
+      (head.long, (mixed_of ws b n xs, more, mixed_acceptable ws head b ok n shaped few xs long, t, words))
 
   -- a contour that more words make whole, with no reflector
-  contour-cut : GoodHead Kind.Mixed ws → Extended (body (mixed_mask_in ws) (mixed_count_in ws)) (drop mixed_head_length ws) → MixedEndEarly ws
-  contour-cut head t =
+  contour_cut : GoodHead Kind.Mixed ws → Extended (body (mixed_mask_in ws) (mixed_count_in ws)) (drop mixed_head_length ws) → MixedEndEarly ws
+  contour_cut head t =
       let none = given_if on 0 in
-      ends-early head t.fields t.fits none (none_shaped on) (none_few on) [] (none_long on _)
-      (t.more ++ (words_of none ++ [])) (some-front t.more _ t.some_more)
+      ends_early head t.fields t.fits none (none_shaped on) (none_few on) [] (none_long on _)
+      (t.more ++ (words_of none ++ [])) (some_front t.more _ t.some_more)
       (sym (append_assoc (drop mixed_head_length ws) t.more _) ∙ ap (λ (l : List ℕ). l ++ (words_of none ++ [])) t.words)
     where
-      some-front : {A : Type 0} (xs ys : List A) → T (some xs) → T (some (xs ++ ys))
-      some-front [] ys t = absurd t
-      some-front (x ∷ xs) ys t = tt
+      some_front : {A : Type 0} (xs ys : List A) → T (some xs) → T (some (xs ++ ys))
+      some_front [] ys t = absurd t
+      some_front (x ∷ xs) ys t = tt
 
   -- a whole contour, and the word of bit 16 missing: no reflector
   count_cut : {rest : List ℕ} (s : ContourParsed ws rest) → count_found ws s.place rest ≡ short → MixedEndEarly ws
   count_cut {rest} s e =
-      let c = contour-sound s in
+      let c = contour_sound s in
       let t = number_missing on s.place rest e in
-      let put = (body (mixed_mask_in ws) (mixed_count_in ws)).put (contourRead s) in
-      ends-early (contour-head s) (contourRead s) c.fits (Given 0) (given_on on 0 t.0) (omega arith) [] (sym (zero-mul _)) (0 ∷ []) tt
+      let put = (body (mixed_mask_in ws) (mixed_count_in ws)).put (contour_read s) in
+      ends_early (contour_head s) (contour_read s) c.fits (Given 0) (given_on on 0 t.0) (omega arith) [] (sym (zero-mul _)) (0 ∷ []) tt
       (ap (λ (l : List ℕ). l ++ (0 ∷ [])) (c.words ∙ ap (λ (l : List ℕ). put ++ l) t.1 ∙ append-nil put))
 
   -- all but some words of reflectors: 0 for each
-  reflectors-cut : {rest : List ℕ} (s : CountParsed ws rest) → number_of s.number ≤ most_reflectors → length rest < reflector_words ws s.number
+  reflectors_cut : {rest : List ℕ} (s : CountParsed ws rest) → number_of s.number ≤ most_reflectors → length rest < reflector_words ws s.number
       → MixedEndEarly ws
-  reflectors-cut {rest} s few h =
+  reflectors_cut {rest} s few h =
       let k = reflector_words ws s.number in
       let t : Extended (many k) rest = rw (lt-leb k (length rest) h) at ((many_extends k).extend rest 0) in
-      let put = (body (mixed_mask_in ws) (mixed_count_in ws)).put (contourRead s.contour) in
-      ends-early (contour-head s.contour) (contourRead s.contour) (contour-sound s.contour).fits s.number (count-sound s).fits few
+      let put = (body (mixed_mask_in ws) (mixed_count_in ws)).put (contour_read s.contour) in
+      ends_early (contour_head s.contour) (contour_read s.contour) (contour_sound s.contour).fits s.number (count_sound s).fits few
       t.fields t.fits t.more t.some_more
-      (ap (λ (l : List ℕ). l ++ t.more) (behind-words s) ∙ append_assoc put (words_of s.number ++ rest) t.more
+      (ap (λ (l : List ℕ). l ++ t.more) (behind_words s) ∙ append_assoc put (words_of s.number ++ rest) t.more
       ∙ ap (λ (l : List ℕ). put ++ l) (append_assoc (words_of s.number) rest t.more ∙ ap (λ (l : List ℕ). words_of s.number ++ l) t.words))
 
   -- a count that says too many stands behind a contour
-  many-there : {rest : List ℕ} (s : CountParsed ws rest) → most_reflectors < number_of s.number → TooMany ws
-  many-there {rest} s h =
-      let head = contour-head s.contour in
-      let b = contourRead s.contour in
-      let ok = (contour-sound s.contour).fits in
+  many_there : {rest : List ℕ} (s : CountParsed ws rest) → most_reflectors < number_of s.number → TooMany ws
+  many_there {rest} s h =
+      let head = contour_head s.contour in
+      let b = contour_read s.contour in
+      let ok = (contour_sound s.contour).fits in
       let n = number_of s.number in
-      let there = number_there on s.number (count-sound s).fits (omega arith) in
+      let there = number_there on s.number (count_sound s).fits (omega arith) in
       let put = (body (mixed_mask_in ws) (mixed_count_in ws)).put b in
       let words = sym (append-nil ws) ∙ laid Kind.Mixed ws head b ok [] (n ∷ rest)
-      (append-nil _ ∙ behind-words s ∙ ap (λ (l : List ℕ). put ++ (l ++ rest)) there.1) in (
+      (append-nil _ ∙ behind_words s ∙ ap (λ (l : List ℕ). put ++ (l ++ rest)) there.1) in (
         mixed_of ws b (given_if on 0) [],
         n,
         rest,
-        no-reflectors head b ok,
+        no_reflectors head b ok,
         there.0,
         h,
         words,
@@ -162,55 +162,55 @@ module _ (ws : List ℕ) where
   given (whole s) = by_body s.count.contour.head (λ t. t)
 
   -- 15 says that the words end early
-  is-early : {r : MixedReading} → MixedOutcome ws r → r.refusal ≡ 15 → MixedEndEarly ws
-  is-early (refused h) e = absurd (head_other Kind.Mixed ws e)
-  is-early (cut_contour h p) e =
+  is_early : {r : MixedReading} → MixedOutcome ws r → r.refusal ≡ 15 → MixedEndEarly ws
+  is_early (refused h) e = absurd (head_other Kind.Mixed ws e)
+  is_early (cut_contour h p) e =
       let c = body (mixed_mask_in ws) (mixed_count_in ws) in
-      contour-cut (good_head Kind.Mixed ws h)
+      contour_cut (good_head Kind.Mixed ws h)
       (subst (ExtendedOf c (drop mixed_head_length ws)) p ((body_extends (mixed_mask_in ws) (mixed_count_in ws)).extend ws mixed_head_length))
-  is-early (cut_count s p) e = count_cut s p
-  is-early (too_many s h) e = absurd (omega arith)
-  is-early (cut_reflectors s few h) e = reflectors-cut s few h
-  is-early (over s) e = absurd (omega arith)
-  is-early (whole s) e = absurd (omega arith)
+  is_early (cut_count s p) e = count_cut s p
+  is_early (too_many s h) e = absurd (omega arith)
+  is_early (cut_reflectors s few h) e = reflectors_cut s few h
+  is_early (over s) e = absurd (omega arith)
+  is_early (whole s) e = absurd (omega arith)
 
   -- 27 says that there are too many
-  is-many : {r : MixedReading} → MixedOutcome ws r → r.refusal ≡ 27 → TooMany ws
-  is-many (refused h) e = absurd (head_other Kind.Mixed ws e)
-  is-many (cut_contour h p) e = absurd (omega arith)
-  is-many (cut_count s p) e = absurd (omega arith)
-  is-many (too_many s h) e = many-there s h
-  is-many (cut_reflectors s few h) e = absurd (omega arith)
-  is-many (over s) e = absurd (omega arith)
-  is-many (whole s) e = absurd (omega arith)
+  is_many : {r : MixedReading} → MixedOutcome ws r → r.refusal ≡ 27 → TooMany ws
+  is_many (refused h) e = absurd (head_other Kind.Mixed ws e)
+  is_many (cut_contour h p) e = absurd (omega arith)
+  is_many (cut_count s p) e = absurd (omega arith)
+  is_many (too_many s h) e = many_there s h
+  is_many (cut_reflectors s few h) e = absurd (omega arith)
+  is_many (over s) e = absurd (omega arith)
+  is_many (whole s) e = absurd (omega arith)
 
   -- 16 says that words are left over
-  is-over : {r : MixedReading} → MixedOutcome ws r → r.refusal ≡ 16 → MixedLeftOver ws
-  is-over (refused h) e = absurd (head_other Kind.Mixed ws e)
-  is-over (cut_contour h p) e = absurd (omega arith)
-  is-over (cut_count s p) e = absurd (omega arith)
-  is-over (too_many s h) e = absurd (omega arith)
-  is-over (cut_reflectors s few h) e = absurd (omega arith)
-  is-over (over {w} {rest} s) e = (mixedFields s, w ∷ rest, mixed_fit s, tt, mixed-laid-out s)
-  is-over (whole s) e = absurd (omega arith)
+  is_over : {r : MixedReading} → MixedOutcome ws r → r.refusal ≡ 16 → MixedLeftOver ws
+  is_over (refused h) e = absurd (head_other Kind.Mixed ws e)
+  is_over (cut_contour h p) e = absurd (omega arith)
+  is_over (cut_count s p) e = absurd (omega arith)
+  is_over (too_many s h) e = absurd (omega arith)
+  is_over (cut_reflectors s few h) e = absurd (omega arith)
+  is_over (over {w} {rest} s) e = (mixed_fields s, w ∷ rest, mixed_fit s, tt, mixed_laid_out s)
+  is_over (whole s) e = absurd (omega arith)
 
   -- a refused reading has nothing but its number and its place
-  is-blank : {r : MixedReading} → MixedOutcome ws r → (r.refusal ≡ 0 → ⊥) → r ≡ refused_mixed r.refusal r.place
-  is-blank (refused h) n = refl
-  is-blank (cut_contour h p) n = refl
-  is-blank (cut_count s p) n = refl
-  is-blank (too_many s h) n = refl
-  is-blank (cut_reflectors s few h) n = refl
-  is-blank (over s) n = refl
-  is-blank (whole s) n = absurd (n refl)
+  is_blank : {r : MixedReading} → MixedOutcome ws r → (r.refusal ≡ 0 → ⊥) → r ≡ refused_mixed r.refusal r.place
+  is_blank (refused h) n = refl
+  is_blank (cut_contour h p) n = refl
+  is_blank (cut_count s p) n = refl
+  is_blank (too_many s h) n = refl
+  is_blank (cut_reflectors s few h) n = refl
+  is_blank (over s) n = refl
+  is_blank (whole s) n = absurd (n refl)
 
 -- a count that says too many is refused by 27, whatever stands behind it
 many_is : (ws : List ℕ) → TooMany ws → (read_mixed_of ws).refusal ≡ 27
 many_is ws t =
     let f = t.0 in
     let n = t.1 in
-    let s = count-read f t.3 (n ∷ t.2) (Given n) (given_on (bit f.contour.mask bits.reflectors) n t.4) t.2 refl in
-    ap (λ (v : List ℕ). (read_mixed_of v).refusal) t.6 ∙ ap (λ (r : MixedReading). r.refusal) (by-many _ s t.5)
+    let s = count_read f t.3 (n ∷ t.2) (Given n) (given_on (bit f.contour.mask bits.reflectors) n t.4) t.2 refl in
+    ap (λ (v : List ℕ). (read_mixed_of v).refusal) t.6 ∙ ap (λ (r : MixedReading). r.refusal) (by_many _ s t.5)
 
 more_behind : (ws more : List ℕ) → TooMany ws → TooMany (ws ++ more)
 more_behind ws more t =
@@ -237,43 +237,43 @@ module _ (ws : List ℕ) (early : MixedEndEarly ws) where
   -- the first four words are a mixed profile's
   passes : mixed_head_refusal ws ≡ 0
   passes =
-      sym (head_front Kind.Mixed ws more early.0) ∙ ap mixed_head_refusal is ∙ mixed-passes f early.1.2 (words_of f.count ++ f.reflectors)
+      sym (head_front Kind.Mixed ws more early.0) ∙ ap mixed_head_refusal is ∙ mixed_passes f early.1.2 (words_of f.count ++ f.reflectors)
 
   -- what was read would be a mixed profile within a mixed profile
-  not-read : {rest : List ℕ} → MixedParsed ws rest → ⊥
-  not-read {rest} s =
-      none_within mixed_reads ws f more early.1.2 early.1.3 is (mixedFields s) rest (mixed_fit s) (mixed-laid-out s)
+  not_read : {rest : List ℕ} → MixedParsed ws rest → ⊥
+  not_read {rest} s =
+      none_within mixed_reads ws f more early.1.2 early.1.3 is (mixed_fields s) rest (mixed_fit s) (mixed_laid_out s)
 
   -- its count would be over 64
-  not-many : {rest : List ℕ} (s : CountParsed ws rest) → most_reflectors < number_of s.number → ⊥
-  not-many s h =
-      let many : (read_mixed_of (ws ++ more)).refusal ≡ 27 = many_is (ws ++ more) (more_behind ws more (many-there ws s h)) in
+  not_many : {rest : List ℕ} (s : CountParsed ws rest) → most_reflectors < number_of s.number → ⊥
+  not_many s h =
+      let many : (read_mixed_of (ws ++ more)).refusal ≡ 27 = many_is (ws ++ more) (more_behind ws more (many_there ws s h)) in
       let taken : (read_mixed_of (ws ++ more)).refusal ≡ 0 = ap (λ (v : List ℕ). (read_mixed_of v).refusal) is ∙ mixed_reads.reads f early.1.2 in
       omega arith
 
   -- words that end early are refused by 15
-  early-is : {r : MixedReading} → MixedOutcome ws r → r.refusal ≡ 15
-  early-is (refused h) = absurd (h passes)
-  early-is (cut_contour h p) = refl
-  early-is (cut_count s p) = refl
-  early-is (too_many s h) = absurd (not-many s h)
-  early-is (cut_reflectors s few h) = refl
-  early-is (over s) = absurd (not-read s)
-  early-is (whole s) = absurd (not-read s)
+  early_is : {r : MixedReading} → MixedOutcome ws r → r.refusal ≡ 15
+  early_is (refused h) = absurd (h passes)
+  early_is (cut_contour h p) = refl
+  early_is (cut_count s p) = refl
+  early_is (too_many s h) = absurd (not_many s h)
+  early_is (cut_reflectors s few h) = refl
+  early_is (over s) = absurd (not_read s)
+  early_is (whole s) = absurd (not_read s)
 
 pub mixed_refusals_exactly : MixedRefusalsExactly
 mixed_refusals_exactly ws =
-    let o = mixed-outcome ws in
+    let o = mixed_outcome ws in
     record {
-      by_head = by-table (given ws o) (mixed_numbers ws) (mixed_table ws) (this tt (this tt (this tt (this tt (this tt (this tt none))))));
-      many = (is-many ws o, many_is ws);
-      early = (is-early ws o, λ t. early-is ws t o);
-      over = (is-over ws o, over-laid mixed_reads ws);
+      by_head = by_table (given ws o) (mixed_numbers ws) (mixed_table ws) (this tt (this tt (this tt (this tt (this tt (this tt none))))));
+      many = (is_many ws o, many_is ws);
+      early = (is_early ws o, λ t. early_is ws t o);
+      over = (is_over ws o, over_laid mixed_reads ws);
     }
 
 module _ (ws : List ℕ) where
   blank : ((read_mixed_of ws).refusal ≡ 0 → ⊥) → read_mixed_of ws ≡ refused_mixed (read_mixed_of ws).refusal (read_mixed_of ws).place
-  blank = is-blank ws (mixed-outcome ws)
+  blank = is_blank ws (mixed_outcome ws)
 
   -- what a refused reading has none of is found in accepted ones alone
   has_some : (part : MixedReading → ℕ) → ((n : ℕ) (p : MixedPlace) → part (refused_mixed n p) ≡ 0) → 0 < part (read_mixed_of ws)
@@ -286,9 +286,9 @@ module _ (ws : List ℕ) where
           let nothing = ap part (blank (eqb-false (read_mixed_of ws).refusal 0 e)) ∙ zero-there (read_mixed_of ws).refusal (read_mixed_of ws).place in
           absurd (omega arith)
 
-  no-stretch : (place : ℕ) → (mixed_stretch_refusal_of ws place ≡ 0 → ⊥) → mixed_stretch_of ws place ≡ []
+  no_stretch : (place : ℕ) → (mixed_stretch_refusal_of ws place ≡ 0 → ⊥) → mixed_stretch_of ws place ≡ []
   unfolding mixed_stretch_refusal_of mixed_stretch_of
-  no-stretch place n =
+  no_stretch place n =
       none_lent (read_mixed_of ws).refusal (read_mixed_of ws).count place (has_some (λ r. r.count) (λ n p. refl)) n _
 
   no_reflector : (place : ℕ) → (reflector_refusal_of ws place ≡ 0 → ⊥) → reflector_of ws place ≡ []
@@ -296,9 +296,9 @@ module _ (ws : List ℕ) where
   no_reflector place n =
       none_lent (read_mixed_of ws).refusal (reflectors_read (read_mixed_of ws)) place (has_some reflectors_read (λ n p. refl)) n _
 
-  none-of-them : ((read_mixed_of ws).refusal ≡ 0 → ⊥) → reflectors_of ws ≡ []
+  none_of_them : ((read_mixed_of ws).refusal ≡ 0 → ⊥) → reflectors_of ws ≡ []
   unfolding reflectors_of
-  none-of-them n = ap (reflectors_in ws) (blank n)
+  none_of_them n = ap (reflectors_in ws) (blank n)
 
   -- a place below a number of a reading
   placed : (many place : ℕ) → PlacedBelow ws (number_at ws many place) many place
@@ -312,7 +312,7 @@ module _ (ws : List ℕ) where
 
 pub mixed_refusals_give_nothing : MixedRefusalsGiveNothing
 mixed_refusals_give_nothing ws =
-    record { reading = blank ws; stretch = no-stretch ws; reflector = no_reflector ws; reflectors = none-of-them ws }
+    record { reading = blank ws; stretch = no_stretch ws; reflector = no_reflector ws; reflectors = none_of_them ws }
 
 pub mixed_stretch_numbers : MixedStretchNumbers
 unfolding mixed_stretch_refusal_of

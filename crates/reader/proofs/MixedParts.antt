@@ -27,17 +27,17 @@ use Rattle.reader.specs.Readings.{Body, body}
 use Rattle.reader.specs.Mixed.{mixed_mask_in, mixed_info_in, mixed_count_in, plain_of, mixed_place_numbers}
 use Rattle.reader.specs.MixedParts.{width_of, MixedBelongs}
 use Rattle.reader.specs.MixedDemands.{MixedEndsPlaced}
-use Rattle.reader.proofs.Heads.{head-long, head_other}
+use Rattle.reader.proofs.Heads.{head_long, head_other}
 use Rattle.reader.proofs.Bodies.{body_lawful}
-use Rattle.reader.proofs.FoundSectors.{found-sound}
-use Rattle.reader.proofs.Prefixes.{front_of, found-same, ends-within}
+use Rattle.reader.proofs.FoundSectors.{found_sound}
+use Rattle.reader.proofs.Prefixes.{front_of, found_same, ends_within}
 use Rattle.reader.proofs.Laid.{body_fields, rest_put, body_ok}
 use Rattle.reader.proofs.Parts.{named}
-use Rattle.reader.proofs.MixedPartsTile.{toCount, toReflectors, contour-has, count-has, reflector-has}
+use Rattle.reader.proofs.MixedPartsTile.{to_count, to_reflectors, contour_has, count_has, reflector_has}
 use Rattle.reader.proofs.ReflectorsTile.{number_sound}
 use Rattle.reader.proofs.MixedNumbers.{mixed_refusals_exactly}
 use Rattle.reader.proofs.MixedAccepted.{contour_found, count_found, reflector_words, ContourParsed, CountParsed}
-use Rattle.reader.proofs.MixedAccepted.{MixedOutcome, refused, cut_contour, cut_count, too_many, cut_reflectors, over, whole, mixed-outcome}
+use Rattle.reader.proofs.MixedAccepted.{MixedOutcome, refused, cut_contour, cut_count, too_many, cut_reflectors, over, whole, mixed_outcome}
 
 -- words that begin the layout of such fields
 module _ (f : MixedFields) (a : MixedAcceptable f) (ws more : List ℕ) (is : ws ++ more ≡ layout_mixed f) (long : mixed_head_length ≤ length ws) where
@@ -54,14 +54,14 @@ module _ (f : MixedFields) (a : MixedAcceptable f) (ws more : List ℕ) (is : ws
   same_at : (k : ℕ) → k < mixed_head_length → get_or ws k 0 ≡ get_or (layout_mixed f) k 0
   same_at k h = sym (get_or-append ws more 0 k (omega arith)) ∙ ap (λ (vs : List ℕ). get_or vs k 0) is
 
-  same-mask : mixed_mask_in ws ≡ m
-  same-mask = (λ j. mixed_number (same_at 1 (omega arith) j) (same_at 2 (omega arith) j)) ∙ sym a.fits.mask
+  same_mask : mixed_mask_in ws ≡ m
+  same_mask = (λ j. mixed_number (same_at 1 (omega arith) j) (same_at 2 (omega arith) j)) ∙ sym a.fits.mask
 
-  same-info : mixed_info_in ws ≡ one_layer + n
-  same-info = same_at 3 (omega arith)
+  same_info : mixed_info_in ws ≡ one_layer + n
+  same_info = same_at 3 (omega arith)
 
   same_count : mixed_count_in ws ≡ n
-  same_count = let few : n ≤ 8 = a.contour.few in rw same-info (omega arith)
+  same_count = let few : n ≤ 8 = a.contour.few in rw same_info (omega arith)
 
   -- behind them
   behind : drop mixed_head_length ws ++ more ≡ contour c ++ reflector_part f
@@ -73,11 +73,11 @@ module _ (f : MixedFields) (a : MixedAcceptable f) (ws more : List ℕ) (is : ws
   laid : drop mixed_head_length ws ++ more ≡ format.put (body_fields c) ++ reflector_part f
   laid = behind ∙ ap (λ (l : List ℕ). l ++ reflector_part f) (rest_put m n c)
 
-  contour-long : length (format.put (body_fields c)) ≡ length (contour c)
-  contour-long = sym (ap length (rest_put m n c))
+  contour_long : length (format.put (body_fields c)) ≡ length (contour c)
+  contour_long = sym (ap length (rest_put m n c))
 
   as_fields : format.parse mixed_head_length (drop mixed_head_length ws) ≡ contour_found ws
-  as_fields = sym (λ j. (body (same-mask j) (same_count j)).parse mixed_head_length (drop mixed_head_length ws))
+  as_fields = sym (λ j. (body (same_mask j) (same_count j)).parse mixed_head_length (drop mixed_head_length ws))
 
   -- they end within the contour: as those of a plain profile do, which has one word less
   module _ (e : contour_found ws ≡ short) where
@@ -86,68 +86,68 @@ module _ (f : MixedFields) (a : MixedAcceptable f) (ws more : List ℕ) (is : ws
 
     cut_short : length (drop mixed_head_length ws) < length (contour c)
     cut_short =
-        rw contour-long at
-        (ends-within format (body_lawful m n) ws mixed_head_length (body_fields c) more (reflector_part f) (body_ok c a.contour.fits) (as_fields ∙ e) laid)
+        rw contour_long at
+        (ends_within format (body_lawful m n) ws mixed_head_length (body_fields c) more (reflector_part f) (body_ok c a.contour.fits) (as_fields ∙ e) laid)
 
     as_plain : plain_of ws ++ missing ≡ layout c
     as_plain =
         let rest : contour c ≡ drop mixed_head_length ws ++ missing =
         front_of (contour c) (drop mixed_head_length ws) (reflector_part f) more (sym behind) (omega (arith, cut_short)) in
         ap (λ (l : List ℕ). (profile_code ∷ mixed_mask_in ws ∷ l) ++ missing) (drop-cons ws 3 0 (omega arith))
-        ∙ (λ j. profile_code ∷ same-mask j ∷ same-info j ∷ sym rest j)
+        ∙ (λ j. profile_code ∷ same_mask j ∷ same_info j ∷ sym rest j)
 
-    plain-long : suc (length (plain_of ws)) ≡ length ws
-    plain-long = omega (arith, length-drop 3 ws)
+    plain_long : suc (length (plain_of ws)) ≡ length ws
+    plain_long = omega (arith, length-drop 3 ws)
 
-    pub in-contour : MixedBelongs f (length ws) (Contour (part_missing (mixed_mask_in ws) (mixed_count_in ws) (plain_of ws)))
-    in-contour =
-        let short-of : length (plain_of ws) < length (layout c) = omega (arith, plain-long, cut_short, length-drop mixed_head_length ws) in
-        let there = named c a.contour (plain_of ws) missing as_plain (omega (arith, plain-long)) short-of in
+    pub in_contour : MixedBelongs f (length ws) (Contour (part_missing (mixed_mask_in ws) (mixed_count_in ws) (plain_of ws)))
+    in_contour =
+        let short-of : length (plain_of ws) < length (layout c) = omega (arith, plain_long, cut_short, length-drop mixed_head_length ws) in
+        let there = named c a.contour (plain_of ws) missing as_plain (omega (arith, plain_long)) short-of in
         subst (λ (k : ℕ). MixedBelongs f (length ws) (Contour (part_missing (mixed_mask_in ws) (k % 256) (plain_of ws)))) (get_or-drop 3 ws 0 0)
-        (rw plain-long at (contour-has f (length (plain_of ws)) _ there))
+        (rw plain_long at (contour_has f (length (plain_of ws)) _ there))
 
   -- the contour is there
   module _ {rest : List ℕ} (s : ContourParsed ws rest) where
-    contour-sound : Sound format ws mixed_head_length s.value s.place rest
-    contour-sound = found-sound ws m n mixed_head_length (as_fields ∙ s.parsed)
+    contour_sound : Sound format ws mixed_head_length s.value s.place rest
+    contour_sound = found_sound ws m n mixed_head_length (as_fields ∙ s.parsed)
 
-    contour-passed : (rest ++ more ≡ reflector_part f) × (length ws ≡ toCount f + length rest)
-    contour-passed =
-        let same = found-same format (body_lawful m n) ws mixed_head_length (body_fields c) more (reflector_part f) (body_ok c a.contour.fits) laid
-        contour-sound in
-        (same.1, omega (arith, same.2, contour-long, length-drop mixed_head_length ws))
+    contour_passed : (rest ++ more ≡ reflector_part f) × (length ws ≡ to_count f + length rest)
+    contour_passed =
+        let same = found_same format (body_lawful m n) ws mixed_head_length (body_fields c) more (reflector_part f) (body_ok c a.contour.fits) laid
+        contour_sound in
+        (same.1, omega (arith, same.2, contour_long, length-drop mixed_head_length ws))
 
     -- and nothing behind it
     pub at_count : count_found ws s.place rest ≡ short → MixedBelongs f (length ws) Count
     at_count e =
         let on = bit m bits.reflectors in
-        let left = contour-sound.rest in
+        let left = contour_sound.rest in
         let none : word on s.place (drop s.place ws) ≡ short =
-        ap (word on s.place) left ∙ sym (ap (λ (k : ℕ). word (bit k bits.reflectors) s.place rest) same-mask) ∙ e in
-        let within = ends-within (one on) (one_lawful on) ws s.place f.count more f.reflectors a.fits.count none
-        (ap (λ (l : List ℕ). l ++ more) left ∙ contour-passed.0) in
-        count-has f (length ws) (omega (arith, contour-passed.1)) (omega (arith, contour-passed.1, within, ap length left))
+        ap (word on s.place) left ∙ sym (ap (λ (k : ℕ). word (bit k bits.reflectors) s.place rest) same_mask) ∙ e in
+        let within = ends_within (one on) (one_lawful on) ws s.place f.count more f.reflectors a.fits.count none
+        (ap (λ (l : List ℕ). l ++ more) left ∙ contour_passed.0) in
+        count_has f (length ws) (omega (arith, contour_passed.1)) (omega (arith, contour_passed.1, within, ap length left))
 
   -- and the word of bit 16
   module _ {rest : List ℕ} (s : CountParsed ws rest) where
-    number_passed : (s.number ≡ f.count) × (rest ++ more ≡ f.reflectors) × (length ws ≡ toReflectors f + length rest)
+    number_passed : (s.number ≡ f.count) × (rest ++ more ≡ f.reflectors) × (length ws ≡ to_reflectors f + length rest)
     number_passed =
         let on = bit m bits.reflectors in
-        let left = (contour-sound s.contour).rest in
+        let left = (contour_sound s.contour).rest in
         let sound : Sound (one on) ws s.contour.place s.number s.start rest =
-        subst (λ (k : ℕ). Sound (one (bit k bits.reflectors)) ws s.contour.place s.number s.start rest) same-mask (number_sound s) in
-        let same = found-same (one on) (one_lawful on) ws s.contour.place f.count more f.reflectors a.fits.count
-        (ap (λ (l : List ℕ). l ++ more) left ∙ (contour-passed s.contour).0) sound in
-        (same.0, same.1, omega (arith, same.2, (contour-passed s.contour).1, ap length left))
+        subst (λ (k : ℕ). Sound (one (bit k bits.reflectors)) ws s.contour.place s.number s.start rest) same_mask (number_sound s) in
+        let same = found_same (one on) (one_lawful on) ws s.contour.place f.count more f.reflectors a.fits.count
+        (ap (λ (l : List ℕ). l ++ more) left ∙ (contour_passed s.contour).0) sound in
+        (same.0, same.1, omega (arith, same.2, (contour_passed s.contour).1, ap length left))
 
     -- they end within the reflectors
-    pub in-reflectors : length rest < reflector_words ws s.number
+    pub in_reflectors : length rest < reflector_words ws s.number
         → MixedBelongs f (length ws) (Reflector (length rest / reflector_width (mixed_mask_in ws)))
-    in-reflectors h =
+    in_reflectors h =
         let same : reflector_words ws s.number ≡ number_of f.count * width_of f =
-        (λ j. number_of (number_passed.0 j) * reflector_width (same-mask j)) in
-        let there = reflector-has f (number_of f.count) (length rest) a.fits.reflectors (omega (arith, a.fits.reflectors)) in
-        subst (λ (k : ℕ). MixedBelongs f (length ws) (Reflector (length rest / reflector_width k))) (sym same-mask)
+        (λ j. number_of (number_passed.0 j) * reflector_width (same_mask j)) in
+        let there = reflector_has f (number_of f.count) (length rest) a.fits.reflectors (omega (arith, a.fits.reflectors)) in
+        subst (λ (k : ℕ). MixedBelongs f (length ws) (Reflector (length rest / reflector_width k))) (sym same_mask)
         (rw (← number_passed.2) at there)
 
 -- what the part of a place has to have
@@ -157,10 +157,10 @@ Named ws p = (f : MixedFields) (more : List ℕ) → MixedAcceptable f → ws ++
 module _ (ws : List ℕ) where
   placed : {r : MixedReading} → MixedOutcome ws r → r.refusal ≡ 15 → (p : MixedPart) × (r.place ≡ At (length ws) p) × Named ws p
   placed (refused h) e = absurd (head_other Kind.Mixed ws e)
-  placed (cut_contour h p) e = (_, refl, λ f more a is. in-contour f a ws more is (head-long Kind.Mixed ws h) p)
-  placed (cut_count s p) e = (Count, refl, λ f more a is. at_count f a ws more is (head-long Kind.Mixed ws s.head) s p)
+  placed (cut_contour h p) e = (_, refl, λ f more a is. in_contour f a ws more is (head_long Kind.Mixed ws h) p)
+  placed (cut_count s p) e = (Count, refl, λ f more a is. at_count f a ws more is (head_long Kind.Mixed ws s.head) s p)
   placed (too_many s h) e = absurd (omega arith)
-  placed (cut_reflectors s few h) e = (_, refl, λ f more a is. in-reflectors f a ws more is (head-long Kind.Mixed ws s.contour.head) s h)
+  placed (cut_reflectors s few h) e = (_, refl, λ f more a is. in_reflectors f a ws more is (head_long Kind.Mixed ws s.contour.head) s h)
   placed (over s) e = absurd (omega arith)
   placed (whole s) e = absurd (omega arith)
 
@@ -178,7 +178,7 @@ mixed_ends_placed ws =
     record {
       there = λ r.
           let e = ((mixed_refusals_exactly ws).early.0 r).1 in
-          let p = placed ws (mixed-outcome ws) r in
+          let p = placed ws (mixed_outcome ws) r in
           (p.0, p.1, record { in_one = (e.0, e.1, e.2, e.4, p.2 e.0 e.1 e.2 e.4); in_every = p.2 });
-      nowhere = unplaced ws (mixed-outcome ws);
+      nowhere = unplaced ws (mixed_outcome ws);
     }

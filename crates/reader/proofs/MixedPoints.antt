@@ -16,7 +16,7 @@ use Rattle.reader.proofs.Heads.{GoodHead, good_head}
 use Rattle.reader.proofs.MixedAccepted.{MixedAccepted}
 use Rattle.reader.proofs.MixedStanding.{mixed_whole}
 use Rattle.reader.proofs.PointPlaces.{points_inside}
-use Rattle.reader.proofs.Lent.{refused-first, is_below, not_below, part-lent, none_lent}
+use Rattle.reader.proofs.Lent.{refused_first, is_below, not_below, part_lent, none_lent}
 
 -- the reading has a sector at the place
 module _ (ws : List ℕ) (place : ℕ) (here : place < (read_mixed_of ws).count) where
@@ -29,8 +29,8 @@ module _ (ws : List ℕ) (place : ℕ) (here : place < (read_mixed_of ws).count)
   head : GoodHead Kind.Mixed ws
   head = good_head Kind.Mixed ws s.count.contour.head
 
-  in-eight : place < 8
-  in-eight = omega (arith, below, head.few)
+  in_eight : place < 8
+  in_eight = omega (arith, below, head.few)
 
   in_words : (let s = get_or (read_mixed_of ws).sectors place blank_sector in s.start + s.len ≤ length ws)
   in_words =
@@ -39,35 +39,35 @@ module _ (ws : List ℕ) (place : ℕ) (here : place < (read_mixed_of ws).count)
 
 -- the same of what a reader holds
 module _ (ws : List ℕ) (place : ℕ) (r : MixedReading) (is : r ≡ read_mixed_of ws) where
-  pub mixed-below-eight : place < r.count → place < 8
-  mixed-below-eight h = in-eight ws place (rw is at h)
+  pub mixed_below_eight : place < r.count → place < 8
+  mixed_below_eight h = in_eight ws place (rw is at h)
 
-  pub mixed-ends : place < r.count → (get_or r.sectors place blank_sector).start + (get_or r.sectors place blank_sector).len ≤ length ws
-  mixed-ends h = rw is (in_words ws place (rw is at h))
+  pub mixed_ends : place < r.count → (get_or r.sectors place blank_sector).start + (get_or r.sectors place blank_sector).len ≤ length ws
+  mixed_ends h = rw is (in_words ws place (rw is at h))
 
   -- the number for no of a stretch
-  pub mixed-refused : (r.refusal ≡ 0 → ⊥) → r.refusal ≡ mixed_stretch_refusal_of ws place
+  pub mixed_refused : (r.refusal ≡ 0 → ⊥) → r.refusal ≡ mixed_stretch_refusal_of ws place
   unfolding mixed_stretch_refusal_of
-  mixed-refused h = rw (← is) (refused-first r.refusal r.count place h)
+  mixed_refused h = rw (← is) (refused_first r.refusal r.count place h)
 
-  pub mixed-has-stretch : r.refusal ≡ 0 → place < r.count → 0 ≡ mixed_stretch_refusal_of ws place
+  pub mixed_has_stretch : r.refusal ≡ 0 → place < r.count → 0 ≡ mixed_stretch_refusal_of ws place
   unfolding mixed_stretch_refusal_of
-  mixed-has-stretch e h = rw (← is) (is_below r.refusal r.count place e h)
+  mixed_has_stretch e h = rw (← is) (is_below r.refusal r.count place e h)
 
-  pub mixed-past-sectors : r.refusal ≡ 0 → r.count ≤ place → 17 ≡ mixed_stretch_refusal_of ws place
+  pub mixed_past_sectors : r.refusal ≡ 0 → r.count ≤ place → 17 ≡ mixed_stretch_refusal_of ws place
   unfolding mixed_stretch_refusal_of
-  mixed-past-sectors e h = rw (← is) (not_below r.refusal r.count place e h)
+  mixed_past_sectors e h = rw (← is) (not_below r.refusal r.count place e h)
 
 -- the part of the words that `stretch_mixed` lends, by the two ways out
 module _ (words : Bor (List ℕ)) (place : ℕ) (r : MixedReading) (is : r ≡ read_mixed_of words.now) (part : Bor (List ℕ)) where
   abbrev here : SectorReading
   here = get_or r.sectors place blank_sector
 
-  pub mixed-points-lent : place < r.count → part.now ≡ take (here.start + here.len - here.start) (drop here.start words.now)
+  pub mixed_points_lent : place < r.count → part.now ≡ take (here.start + here.len - here.start) (drop here.start words.now)
       → part.ref_ptr ≡ (words.ref_ptr.0, here.start * 2 + words.ref_ptr.1) → MixedStretchSays words place part
   unfolding mixed_stretch_of mixed_stretch_start
-  mixed-points-lent h e p = rw (← is) (part-lent words r.count place here.start here.len part h e p)
+  mixed_points_lent h e p = rw (← is) (part_lent words r.count place here.start here.len part h e p)
 
-  pub mixed-nothing-lent : r.count ≤ place → part.now ≡ [] → part.ref_ptr ≡ (words.ref_ptr.0, 0 * 2 + words.ref_ptr.1) → MixedStretchSays words place part
+  pub mixed_nothing_lent : r.count ≤ place → part.now ≡ [] → part.ref_ptr ≡ (words.ref_ptr.0, 0 * 2 + words.ref_ptr.1) → MixedStretchSays words place part
   unfolding mixed_stretch_of mixed_stretch_start
-  mixed-nothing-lent h e p = rw (← is) (none_lent words r.count place here.start here.len part h e p)
+  mixed_nothing_lent h e p = rw (← is) (none_lent words r.count place here.start here.len part h e p)

@@ -25,21 +25,21 @@ use Rattle.reader.specs.declared.ContourFound.{ContourFound}
 use Rattle.reader.specs.declared.MixedReading.{MixedReading}
 use Rattle.reader.specs.Mixed.{mixed_mask_in, mixed_count_in, mixed_head_refusal, refused_mixed, accepted_mixed, mixed_body_of, read_mixed_of}
 use Rattle.reader.specs.Places.{ContourWhole, ContourRead}
-use Rattle.reader.proofs.Heads.{head-long}
-use Rattle.reader.proofs.MixedEnds.{contour-part}
+use Rattle.reader.proofs.Heads.{head_long}
+use Rattle.reader.proofs.MixedEnds.{contour_part}
 use Rattle.reader.proofs.MixedAccepted.{ContourParsed, CountParsed, count_found, reflector_words}
-use Rattle.reader.proofs.MixedAccepted.{by-mixed-head, by-contour, by_count, by-many, by-short, by_left}
+use Rattle.reader.proofs.MixedAccepted.{by_mixed_head, by_contour, by_count, by_many, by_short, by_left}
 
 body_read : (ws : List ℕ) → mixed_head_refusal ws ≡ 0 → read_mixed_of ws ≡ mixed_body_of ws
 unfolding read_mixed_of
 body_read ws h = rw (eq-eqb (mixed_head_refusal ws) 0 h)
 
 module _ (ws : List ℕ) (n : ℕ) (head : n ≡ mixed_head_refusal ws) (r : MixedReading) where
-  pub refused-mixed-head : (n ≡ 0 → ⊥) → r ≡ refused_mixed n Nowhere → r ≡ read_mixed_of ws
-  refused-mixed-head h e = e ∙ ap (λ (k : ℕ). refused_mixed k Nowhere) head ∙ sym (by-mixed-head ws (λ z. h (head ∙ z)))
+  pub refused_mixed_head : (n ≡ 0 → ⊥) → r ≡ refused_mixed n Nowhere → r ≡ read_mixed_of ws
+  refused_mixed_head h e = e ∙ ap (λ (k : ℕ). refused_mixed k Nowhere) head ∙ sym (by_mixed_head ws (λ z. h (head ∙ z)))
 
-  pub read-mixed-whole : n ≡ 0 → r ≡ mixed_body_of ws → r ≡ read_mixed_of ws
-  read-mixed-whole h e = e ∙ sym (body_read ws (sym head ∙ h))
+  pub read_mixed_whole : n ≡ 0 → r ≡ mixed_body_of ws → r ≡ read_mixed_of ws
+  read_mixed_whole h e = e ∙ sym (body_read ws (sym head ∙ h))
 
 -- the reading of these words as the code makes it: what the contour gives, the word of bit 16, where the reflectors begin, and how wide each is
 abbrev read_so : List ℕ → ContourFound → Word → ℕ → ℕ → MixedReading
@@ -76,11 +76,11 @@ module _ (ws : List ℕ) (head : mixed_head_refusal ws ≡ 0) (mask : ℕ) (em :
   read : ContourRead ws mixed_head_length (mixed_mask_in ws) (mixed_count_in ws) f
   read = subst (λ (m : ℕ). ContourRead ws mixed_head_length m (mixed_count_in ws) f) em is
 
-  pub contour-cut : {r : MixedReading} → r ≡ refused_mixed 15 (At (length ws) (Contour f.part)) → length ws < f.at → r ≡ mixed_body_of ws
-  contour-cut e h =
+  pub contour_cut : {r : MixedReading} → r ≡ refused_mixed 15 (At (length ws) (Contour f.part)) → length ws < f.at → r ≡ mixed_body_of ws
+  contour_cut e h =
       let cut = read.cut h in
-      let part = cut.part ∙ sym (contour-part (mixed_mask_in ws) (mixed_count_in ws) ws (head-long Kind.Mixed ws head)) in
-      e ∙ ap (λ (p : Part). refused_mixed 15 (At (length ws) (Contour p))) part ∙ sym (by-contour ws head cut.found) ∙ body_read ws head
+      let part = cut.part ∙ sym (contour_part (mixed_mask_in ws) (mixed_count_in ws) ws (head_long Kind.Mixed ws head)) in
+      e ∙ ap (λ (p : Part). refused_mixed 15 (At (length ws) (Contour p))) part ∙ sym (by_contour ws head cut.found) ∙ body_read ws head
 
   -- the word of bit 16, behind a contour that is whole
   module _ (whole : f.at ≤ length ws) (t : Took) (et : t ≡ take_at (bit mask bits.reflectors) ws f.at) where
@@ -105,13 +105,13 @@ module _ (ws : List ℕ) (head : mixed_head_refusal ws ≡ 0) (mask : ℕ) (em :
             parsed = taken ∙ in_out ws 0 t.word t.at there ∙ rw zero-add;
           }
 
-      pub number-over : {r : MixedReading} → r ≡ refused_mixed 27 Nowhere → most_reflectors < n → r ≡ mixed_body_of ws
-      number-over e h = e ∙ sym (by-many ws counted (rw en at h)) ∙ body_read ws head
+      pub number_over : {r : MixedReading} → r ≡ refused_mixed 27 Nowhere → most_reflectors < n → r ≡ mixed_body_of ws
+      number_over e h = e ∙ sym (by_many ws counted (rw en at h)) ∙ body_read ws head
 
       -- the reflectors
       module _ (few : n ≤ most_reflectors) (width : ℕ) (ew : width ≡ reflector_width mask) (all : ℕ) (ea : all ≡ n * width) where
-        few-read : number_of t.word ≤ most_reflectors
-        few-read = rw en at few
+        few_read : number_of t.word ≤ most_reflectors
+        few_read = rw en at few
 
         wide : width ≡ reflector_width (mixed_mask_in ws)
         wide = ew ∙ ap reflector_width em
@@ -119,13 +119,13 @@ module _ (ws : List ℕ) (head : mixed_head_refusal ws ≡ 0) (mask : ℕ) (em :
         all_words : all ≡ reflector_words ws t.word
         all_words = rw (ea, en, wide)
 
-        pub reflector-cut : {r : MixedReading} → r ≡ refused_mixed 15 (At (length ws) (Reflector ((length ws - t.at) / width)))
+        pub reflector_cut : {r : MixedReading} → r ≡ refused_mixed 15 (At (length ws) (Reflector ((length ws - t.at) / width)))
             → length ws - t.at < all → r ≡ mixed_body_of ws
-        reflector-cut e h =
+        reflector_cut e h =
             let rest = length-drop t.at ws in
             let short : length (drop t.at ws) < reflector_words ws t.word = omega (arith, all_words) in
             let place : (length ws - t.at) / width ≡ length (drop t.at ws) / reflector_width (mixed_mask_in ws) = rw (wide, rest) in
-            e ∙ ap (λ (k : ℕ). refused_mixed 15 (At (length ws) (Reflector k))) place ∙ sym (by-short ws counted few-read short) ∙ body_read ws head
+            e ∙ ap (λ (k : ℕ). refused_mixed 15 (At (length ws) (Reflector k))) place ∙ sym (by_short ws counted few_read short) ∙ body_read ws head
 
         module _ (enough : all ≤ length ws - t.at) where
           fit : reflector_words ws t.word ≤ length (drop t.at ws)
@@ -134,13 +134,13 @@ module _ (ws : List ℕ) (head : mixed_head_refusal ws ≡ 0) (mask : ℕ) (em :
           behind : drop (reflector_words ws t.word) (drop t.at ws) ≡ drop (t.at + all) ws
           behind = rw (← all_words, drop-drop)
 
-          pub reflectors-over : {r : MixedReading} → r ≡ refused_mixed 16 Nowhere → all < length ws - t.at → r ≡ mixed_body_of ws
-          reflectors-over e h =
+          pub reflectors_over : {r : MixedReading} → r ≡ refused_mixed 16 Nowhere → all < length ws - t.at → r ≡ mixed_body_of ws
+          reflectors_over e h =
               let one : t.at + all < length ws = omega arith in
-              e ∙ sym (by_left ws counted few-read fit (behind ∙ drop-cons ws (t.at + all) 0 one)) ∙ body_read ws head
+              e ∙ sym (by_left ws counted few_read fit (behind ∙ drop-cons ws (t.at + all) 0 one)) ∙ body_read ws head
 
-          pub mixed-body-whole : length ws - t.at ≤ all → read_so ws f t.word t.at width ≡ mixed_body_of ws
-          mixed-body-whole h =
+          pub mixed_body_whole : length ws - t.at ≤ all → read_so ws f t.word t.at width ≡ mixed_body_of ws
+          mixed_body_whole h =
               let past : length ws ≤ t.at + all = omega arith in
               let none : drop (reflector_words ws t.word) (drop t.at ws) ≡ [] = behind ∙ drop_of_length-le ws past in
-              whole_is (read.whole whole) wide ∙ sym (by_left ws counted few-read fit none) ∙ body_read ws head
+              whole_is (read.whole whole) wide ∙ sym (by_left ws counted few_read fit none) ∙ body_read ws head

@@ -8,14 +8,14 @@ use Rattle.reader.specs.declared.MixedReading.{MixedReading}
 use Rattle.reader.specs.Mixed.{mixed_mask_in, mixed_count_in, read_mixed_of}
 use Rattle.reader.specs.MixedStretches.{mixed_stretch_of, mixed_stretch_start}
 use Rattle.reader.specs.MixedDemands.{MixedNoPoints, MixedStandsAtPlace}
-use Rattle.reader.proofs.MixedAccepted.{MixedAccepted, MixedOutcome, mixed-outcome}
+use Rattle.reader.proofs.MixedAccepted.{MixedAccepted, MixedOutcome, mixed_outcome}
 use Rattle.reader.proofs.MixedAccepted.{refused, cut_contour, cut_count, too_many, cut_reflectors, over, whole}
 use Rattle.reader.proofs.PointNumbers.{pointless}
-use Rattle.reader.proofs.Standing.{stands-behind}
+use Rattle.reader.proofs.Standing.{stands_behind}
 
 -- a reading that has a sector is not refused
 pub mixed_whole : (ws : List ℕ) → 0 < (read_mixed_of ws).count → MixedAccepted ws
-mixed_whole ws = go (mixed-outcome ws)
+mixed_whole ws = go (mixed_outcome ws)
   where
     go : {r : MixedReading} → MixedOutcome ws r → 0 < r.count → MixedAccepted ws
     go (refused h) e = absurd (omega arith)
@@ -38,4 +38,4 @@ unfolding mixed_stretch_start
 mixed_stands_at_place ws place here =
     let s = mixed_whole ws (omega arith) in
     rw (lt-ltb place (read_mixed_of ws).count here, s.reading)
-    (omega (arith, stands-behind ws (mixed_mask_in ws) (mixed_count_in ws) mixed_head_length s.count.contour.parsed place (rw s.reading at here)))
+    (omega (arith, stands_behind ws (mixed_mask_in ws) (mixed_count_in ws) mixed_head_length s.count.contour.parsed place (rw s.reading at here)))

@@ -29,7 +29,7 @@ use Rattle.reader.proofs.SectorPlaces.{sector_lawful}
 use Rattle.reader.proofs.Bodies.{sectors_ok_lem}
 use Rattle.reader.proofs.Accepted.{Outcome, refused, cut, over, whole, outcome}
 use Rattle.reader.proofs.Prefixes.{Stops, stops}
-use Rattle.reader.proofs.PartsTile.{sector-has, senstat-has, head-has}
+use Rattle.reader.proofs.PartsTile.{sector_has, senstat_has, head_has}
 use Rattle.reader.proofs.Laid.{body_fields, sectors_laid, body_ok}
 use Rattle.reader.proofs.RoundTrip.{reads_back}
 use Rattle.reader.proofs.Numbers.{refusals_exactly}
@@ -49,8 +49,8 @@ module _ (f : Fields) (w : Acceptable f) (ws more : List ℕ) (is : ws ++ more �
   n = length f.sectors
 
   -- the head's words, counted by the mask
-  head-counted : length (words_of_part f Head) ≡ head_words m
-  head-counted =
+  head_counted : length (words_of_part f Head) ≡ head_words m
+  head_counted =
       simp length-append (omega (
         arith,
         word_length (bit m bits.sent) _ w.fits.sent,
@@ -59,46 +59,46 @@ module _ (f : Fields) (w : Acceptable f) (ws more : List ℕ) (is : ws ++ more �
       ))
 
   -- behind the head, as the format lays it out
-  behind-head : head_words m ≤ length ws → drop (head_words m) ws ++ more ≡ laid_all (sector m).put f.sectors ++ status f
-  behind-head h =
+  behind_head : head_words m ≤ length ws → drop (head_words m) ws ++ more ≡ laid_all (sector m).put f.sectors ++ status f
+  behind_head h =
       let parts : layout f ≡ words_of_part f Head ++ (laid_all layout_sector f.sectors ++ status f) = simp append_assoc in
       rw (sectors_laid m f.sectors)
-      (sym (drop_front (head_words m) ws more h) ∙ ap (drop (head_words m)) (is ∙ parts) ∙ drop_at (words_of_part f Head) _ (head_words m) head-counted)
+      (sym (drop_front (head_words m) ws more h) ∙ ap (drop (head_words m)) (is ∙ parts) ∙ drop_at (words_of_part f Head) _ (head_words m) head_counted)
 
   -- by where they stop in the sectors
-  by-sectors : head_words m ≤ length ws → length ws < length (layout f)
+  by_sectors : head_words m ≤ length ws → length ws < length (layout f)
       → Stops (sector m) (sector_lawful m) f.sectors (whole_sectors m n ws) (length (drop (head_words m) ws))
       → Belongs f (length ws) (part_missing m n ws)
   unfolding part_missing
-  by-sectors h below (inl s) =
+  by_sectors h below (inl s) =
       let all = rw (sectors_laid m f.sectors) at s.1 in
       rw (le-ltb (length ws) (head_words m) h, le-ltb (whole_sectors m n ws) n (let e = s.0 in omega arith))
-      (senstat-has f (length ws) (omega (arith, head-counted, length-drop (head_words m) ws)) below)
-  by-sectors h below (inr s) =
+      (senstat_has f (length ws) (omega (arith, head_counted, length-drop (head_words m) ws)) below)
+  by_sectors h below (inr s) =
       let k = whole_sectors m n ws in
       let from = rw (sectors_laid m (take k f.sectors)) at s.1 in
       let to = rw (sectors_laid m (take k f.sectors), sectors_laid m (take 1 (drop k f.sectors))) at s.2 in
       rw (le-ltb (length ws) (head_words m) h, lt-ltb k n s.0)
-      (sector-has f (length ws) k
-      (omega (arith, head-counted, length-drop (head_words m) ws))
-      (omega (arith, head-counted, length-drop (head_words m) ws)))
+      (sector_has f (length ws) k
+      (omega (arith, head_counted, length-drop (head_words m) ws))
+      (omega (arith, head_counted, length-drop (head_words m) ws)))
 
   belongs : length ws < length (layout f) → Belongs f (length ws) (part_missing m n ws)
   unfolding part_missing
   belongs below = go (ltb (length ws) (head_words m)) refl
     where
       go : (t : Bool) → ltb (length ws) (head_words m) ≡ t → Belongs f (length ws) (part_missing m n ws)
-      go true e = rw e (head-has f (length ws) (omega (arith, head-counted, ltb-true (length ws) (head_words m) e)))
+      go true e = rw e (head_has f (length ws) (omega (arith, head_counted, ltb-true (length ws) (head_words m) e)))
       go false e =
           let h = ltb-false (length ws) (head_words m) e in
-          by-sectors h below
+          by_sectors h below
           (stops (sector m) (sector_lawful m) f.sectors ws (head_words m) more (status f)
           (sectors_ok_lem m n (body_fields f) (body_ok f w.fits))
-          (behind-head h))
+          (behind_head h))
 
   -- the mask and the number of sectors are those of the fields
-  same-mask : head_length ≤ length ws → mask_in ws ≡ m
-  same-mask h = sym (get_or-append ws more 0 1 (omega arith)) ∙ ap (λ (vs : List ℕ). get_or vs 1 0) is
+  same_mask : head_length ≤ length ws → mask_in ws ≡ m
+  same_mask h = sym (get_or-append ws more 0 1 (omega arith)) ∙ ap (λ (vs : List ℕ). get_or vs 1 0) is
 
   same_count : head_length ≤ length ws → count_in ws ≡ n
   same_count h =
@@ -107,7 +107,7 @@ module _ (f : Fields) (w : Acceptable f) (ws more : List ℕ) (is : ws ++ more �
       rw third (omega arith)
 
   pub named : head_length ≤ length ws → length ws < length (layout f) → Belongs f (length ws) (part_missing (mask_in ws) (count_in ws) ws)
-  named h below = rw (same-mask h, same_count h) (belongs below)
+  named h below = rw (same_mask h, same_count h) (belongs below)
 
 -- words that are refused by 15 are not a whole profile
 shorter : (ws : List ℕ) (f : Fields) (more : List ℕ) → (read_of ws).refusal ≡ 15 → Acceptable f → ws ++ more ≡ layout f
@@ -121,8 +121,8 @@ module _ (ws : List ℕ) where
   abbrev part : Part
   part = part_missing (mask_in ws) (count_in ws) ws
 
-  ends-in : (read_of ws).refusal ≡ 15 → EndEarly ws → EndsIn ws part
-  ends-in r t =
+  ends_in : (read_of ws).refusal ≡ 15 → EndEarly ws → EndsIn ws part
+  ends_in r t =
       let e = t.1 in
       let every : (f : Fields) (more : List ℕ) → Acceptable f → ws ++ more ≡ layout f → Belongs f (length ws) part =
       λ f more w is. named f w ws more is t.0 (shorter ws f more r w is) in
@@ -144,6 +144,6 @@ module _ (ws : List ℕ) where
 pub ends_placed : EndsPlaced
 ends_placed ws =
     record {
-      there = λ r. (part ws, placed ws (outcome ws) r, ends-in ws r ((refusals_exactly ws).early.0 r));
+      there = λ r. (part ws, placed ws (outcome ws) r, ends_in ws r ((refusals_exactly ws).early.0 r));
       nowhere = unplaced ws (outcome ws);
     }

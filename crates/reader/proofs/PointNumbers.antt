@@ -42,13 +42,13 @@ module _ (ws : List ℕ) (mask count first : ℕ) {value : Body SectorReading} {
   ok : (sector mask).ok ((sector mask).strip ws at)
   ok = found_ok ws mask count first parsed place here
 
-  point-words : length (stretch_in ws at) ≡ number_of at.points * point_width mask
-  point-words = ok.1.1.1.1.1.0
+  point_words : length (stretch_in ws at) ≡ number_of at.points * point_width mask
+  point_words = ok.1.1.1.1.1.0
 
   -- bit 5 is clear, or bits 8 to 10 are
   pub pointless : (bit mask bits.points ≡ false) ⊎ (point_width mask ≡ 0) → stretch_in ws at ≡ []
-  pointless (inl e) = no_length (stretch_in ws at) (point-words ∙ rw (left_out (bit mask bits.points) at.points ok.1.1.0 e, zero-mul))
-  pointless (inr e) = no_length (stretch_in ws at) (point-words ∙ rw (e, mul-zero))
+  pointless (inl e) = no_length (stretch_in ws at) (point_words ∙ rw (left_out (bit mask bits.points) at.points ok.1.1.0 e, zero-mul))
+  pointless (inr e) = no_length (stretch_in ws at) (point_words ∙ rw (e, mul-zero))
 
 pub no_points : NoPoints
 unfolding stretch_of

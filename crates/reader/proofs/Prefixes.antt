@@ -42,19 +42,19 @@ module _ {A F : Type 0} (c : Format A F) (lawful : Lawful c) where
       (sym first.same ∙ ap (λ g. c.strip W (value_of first.value g)) same ∙ second.same, ap rest_of same)
 
   -- what is found whole is what was laid out, and what is left goes on as what stands behind it
-  pub found-same : (W : List ℕ) (b : ℕ) (f : F) (us vs : List ℕ) → c.ok f → drop b W ++ us ≡ c.put f ++ vs
+  pub found_same : (W : List ℕ) (b : ℕ) (f : F) (us vs : List ℕ) → c.ok f → drop b W ++ us ≡ c.put f ++ vs
       → {a : A} {b' : ℕ} {ws' : List ℕ} → Sound c W b a b' ws'
       → (c.strip W a ≡ f) × (ws' ++ us ≡ vs) × (length (drop b W) ≡ length (c.put f) + length ws')
-  found-same W b f us vs ok is {a} {b'} {ws'} s =
+  found_same W b f us vs ok is {a} {b'} {ws'} s =
       let word-by-word = sym (append_assoc (c.put (c.strip W a)) ws' us) ∙ ap (λ ws. ws ++ us) (sym s.words) ∙ is in
       let both = one_way (c.strip W a) f (ws' ++ us) vs s.fits ok word-by-word in
       let long = ap length s.words ∙ length-append (c.put (c.strip W a)) ws' ∙ ap (λ g. length (c.put g) + length ws') both.0 in
       (both.0, both.1, long)
 
   -- where nothing whole is found, the words end within it
-  pub ends-within : (W : List ℕ) (b : ℕ) (f : F) (us vs : List ℕ) → c.ok f → c.parse b (drop b W) ≡ short → drop b W ++ us ≡ c.put f ++ vs
+  pub ends_within : (W : List ℕ) (b : ℕ) (f : F) (us vs : List ℕ) → c.ok f → c.parse b (drop b W) ≡ short → drop b W ++ us ≡ c.put f ++ vs
       → length (drop b W) < length (c.put f)
-  ends-within W b f us vs ok e is = go (ltb (length (drop b W)) (length (c.put f))) refl
+  ends_within W b f us vs ok e is = go (ltb (length (drop b W)) (length (c.put f))) refl
     where
       go : (t : Bool) → ltb (length (drop b W)) (length (c.put f)) ≡ t → length (drop b W) < length (c.put f)
       go true q = ltb-true _ _ q
@@ -79,16 +79,16 @@ module _ {A F : Type 0} (c : Format A F) (lawful : Lawful c) where
       inr (omega arith, rw length-append (omega arith), rw length-append (omega arith))
 
   -- the first of them, and then the others by what is said of them
-  one-stops : (f : F) (fs : List F) (W : List ℕ) (b : ℕ) (us vs : List ℕ) → c.ok f → drop b W ++ us ≡ c.put f ++ (laid_all c.put fs ++ vs)
+  one_stops : (f : F) (fs : List F) (W : List ℕ) (b : ℕ) (us vs : List ℕ) → c.ok f → drop b W ++ us ≡ c.put f ++ (laid_all c.put fs ++ vs)
       → ((b' : ℕ) → drop b' W ++ us ≡ laid_all c.put fs ++ vs
       → Stops fs (wholes (length fs) c.parse b' (drop b' W)) (length (drop b' W)))
       → (g : Got A) → c.parse b (drop b W) ≡ g → SoundOf c W b g
       → Stops (f ∷ fs) (one_more_of g (wholes (length fs) c.parse)) (length (drop b W))
-  one-stops f fs W b us vs ok is others short e s =
-      let within = ends-within W b f us _ ok e is in
+  one_stops f fs W b us vs ok is others short e s =
+      let within = ends_within W b f us _ ok e is in
       inr (omega arith, omega arith, rw (append-nil (c.put f)) (omega arith))
-  one-stops f fs W b us vs ok is others (got a b' ws') e s =
-      let same = found-same W b f us _ ok is s in
+  one_stops f fs W b us vs ok is others (got a b' ws') e s =
+      let same = found_same W b f us _ ok is s in
       let there = subst (λ ws. Stops fs (wholes (length fs) c.parse b' ws) (length ws)) s.rest
       (others b' (ap (λ ws. ws ++ us) s.rest ∙ same.1)) in
       rw same.2 (one_further f fs _ (length ws') there)
@@ -97,5 +97,5 @@ module _ {A F : Type 0} (c : Format A F) (lawful : Lawful c) where
       → Stops fs (wholes (length fs) c.parse b (drop b W)) (length (drop b W))
   stops [] W b us vs ok is = inl (refl, omega arith)
   stops (f ∷ fs) W b us vs ok is =
-      one-stops f fs W b us vs ok.0 (is ∙ append_assoc (c.put f) (laid_all c.put fs) vs) (λ b' is'. stops fs W b' us vs ok.1 is')
+      one_stops f fs W b us vs ok.0 (is ∙ append_assoc (c.put f) (laid_all c.put fs) vs) (λ b' is'. stops fs W b' us vs ok.1 is')
       (c.parse b (drop b W)) refl (lawful.sound W b)

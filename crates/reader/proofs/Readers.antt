@@ -20,20 +20,20 @@ some_behind (x ∷ xs) ys t = tt
 
 module _ {F : Type 0} {good : F → Type 0} {lay : F → List ℕ} {number : List ℕ → ℕ} {fields : List ℕ → F}
     (r : Reads good lay number fields) where
-  pub takes-exactly : (ws : List ℕ) → (number ws ≡ 0) ↔ ((f : F) × good f × (ws ≡ lay f))
-  takes-exactly ws = (r.taken ws, λ t. subst (λ (v : List ℕ). number v ≡ 0) (sym t.2) (r.reads t.0 t.1))
+  pub takes_exactly : (ws : List ℕ) → (number ws ≡ 0) ↔ ((f : F) × good f × (ws ≡ lay f))
+  takes_exactly ws = (r.taken ws, λ t. subst (λ (v : List ℕ). number v ≡ 0) (sym t.2) (r.reads t.0 t.1))
 
   -- fields that were taken are laid out as the words were
-  pub loses-none : (ws : List ℕ) → number ws ≡ 0 → lay (fields ws) ≡ ws
-  loses-none ws e =
+  pub loses_none : (ws : List ℕ) → number ws ≡ 0 → lay (fields ws) ≡ ws
+  loses_none ws e =
       let t = r.taken ws e in
       ap (λ (v : List ℕ). lay (fields v)) t.2 ∙ ap lay (r.back t.0 t.1) ∙ sym t.2
 
-  pub laid-once : (f g : F) → good f → good g → lay f ≡ lay g → f ≡ g
-  laid-once f g v w e = sym (r.back f v) ∙ ap fields e ∙ r.back g w
+  pub laid_once : (f g : F) → good f → good g → lay f ≡ lay g → f ≡ g
+  laid_once f g v w e = sym (r.back f v) ∙ ap fields e ∙ r.back g w
 
-  pub over-laid : (ws : List ℕ) → (f : F) × (more : List ℕ) × good f × T (some more) × (ws ≡ lay f ++ more) → number ws ≡ 16
-  over-laid ws t = subst (λ (v : List ℕ). number v ≡ 16) (sym t.4) (r.over t.0 t.2 t.1 t.3)
+  pub over_laid : (ws : List ℕ) → (f : F) × (more : List ℕ) × good f × T (some more) × (ws ≡ lay f ++ more) → number ws ≡ 16
+  over_laid ws t = subst (λ (v : List ℕ). number v ≡ 16) (sym t.4) (r.over t.0 t.2 t.1 t.3)
 
   -- what is laid out does not begin with something laid out, and more words behind it
   not_within : (f g : F) → good f → good g → (more : List ℕ) → T (some more) → lay f ≡ lay g ++ more → ⊥

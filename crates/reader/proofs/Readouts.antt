@@ -16,9 +16,9 @@ use Rattle.reader.specs.Readings.{mask_in, count_in, head_refusal, refused_readi
 use Rattle.reader.specs.Places.{part_from, ContourRead}
 
 module _ (ws : List ℕ) (n : ℕ) (head : n ≡ head_refusal ws) (r : Reading) where
-  pub refused-head : (n ≡ 0 → ⊥) → r ≡ refused_reading n Nowhere → r ≡ read_of ws
+  pub refused_head : (n ≡ 0 → ⊥) → r ≡ refused_reading n Nowhere → r ≡ read_of ws
   unfolding read_of
-  refused-head h e = rw (← head, ne_eqb n 0 h) e
+  refused_head h e = rw (← head, ne_eqb n 0 h) e
 
   pub read_whole : n ≡ 0 → r ≡ body_of ws → r ≡ read_of ws
   unfolding read_of
@@ -26,21 +26,21 @@ module _ (ws : List ℕ) (n : ℕ) (head : n ≡ head_refusal ws) (r : Reading) 
 
 -- the ways out behind the head, by the place behind the contour
 module _ (ws : List ℕ) (f : ContourFound) (is : ContourRead ws head_length (mask_in ws) (count_in ws) f) where
-  pub body-cut : {r : Reading} → r ≡ refused_reading 15 (At (f.at - 1) f.part) → length ws < f.at → r ≡ body_of ws
+  pub body_cut : {r : Reading} → r ≡ refused_reading 15 (At (f.at - 1) f.part) → length ws < f.at → r ≡ body_of ws
   unfolding body_of part_missing part_from
-  body-cut e h =
+  body_cut e h =
       let cut = is.cut h in
       let index : f.at - 1 ≡ length ws = omega (arith, cut.place) in
       e ∙ (λ j. refused_reading 15 (At (index j) (cut.part j))) ∙ sym (ap (ended (mask_in ws) (count_in ws) (end_of ws)) cut.found)
 
-  pub body-over : {r : Reading} → r ≡ refused_reading 16 Nowhere → f.at < length ws → r ≡ body_of ws
+  pub body_over : {r : Reading} → r ≡ refused_reading 16 Nowhere → f.at < length ws → r ≡ body_of ws
   unfolding body_of
-  body-over e h =
+  body_over e h =
       let whole = is.whole (omega arith) in
       let left : refused_reading 16 Nowhere ≡ with_left (mask_in ws) (count_in ws) whole.value (drop f.at ws) = rw (drop-cons ws f.at 0 h) in
       e ∙ left ∙ sym (ap (ended (mask_in ws) (count_in ws) (end_of ws)) whole.found)
 
-  pub body-whole : f.at ≤ length ws → length ws ≤ f.at
+  pub body_whole : f.at ≤ length ws → length ws ≤ f.at
       → record {
         refusal = 0;
         place = Nowhere;
@@ -54,7 +54,7 @@ module _ (ws : List ℕ) (f : ContourFound) (is : ContourRead ws head_length (ma
         low = f.low;
       } ≡ body_of ws
   unfolding body_of
-  body-whole h k =
+  body_whole h k =
       let whole = is.whole h in
       rw (
         whole.sent,

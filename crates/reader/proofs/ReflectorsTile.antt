@@ -26,9 +26,9 @@ use Rattle.reader.specs.Mixed.{mixed_mask_in, mixed_count_in, accepted_mixed}
 use Rattle.reader.specs.MixedStretches.{reflectors_of, reflector_of, contour_in, words_before_reflectors}
 use Rattle.reader.specs.MixedDemands.{ReflectorsInTurn}
 use Rattle.reader.proofs.Accepted.{sound_of}
-use Rattle.reader.proofs.FoundSectors.{found-sound, found-kept, found_all}
+use Rattle.reader.proofs.FoundSectors.{found_sound, found_kept, found_all}
 use Rattle.reader.proofs.Laid.{rest_put}
-use Rattle.reader.proofs.MixedAccepted.{MixedAccepted, CountParsed, mixed-accepted}
+use Rattle.reader.proofs.MixedAccepted.{MixedAccepted, CountParsed, mixed_accepted}
 
 -- words from a place on are blocks of one width in turn
 blocks : (width : ℕ) (ws : List ℕ) (start n : ℕ) → take (n * width) (drop start ws) ≡ in_turn (λ r. take width (drop (start + r * width) ws)) n
@@ -41,7 +41,7 @@ pub number_sound : {ws rest : List ℕ} (s : CountParsed ws rest)
     → Sound (one (bit (mixed_mask_in ws) bits.reflectors)) ws s.contour.place s.number s.start rest
 number_sound {ws} s =
     let on = bit (mixed_mask_in ws) bits.reflectors in
-    let behind = (found-sound ws (mixed_mask_in ws) (mixed_count_in ws) mixed_head_length s.contour.parsed).rest in
+    let behind = (found_sound ws (mixed_mask_in ws) (mixed_count_in ws) mixed_head_length s.contour.parsed).rest in
     sound_of (one on) (one_lawful on) ws s.contour.place (ap (word on s.contour.place) behind ∙ s.parsed)
 
 -- it begins behind the contour, and the reflectors behind it
@@ -49,7 +49,7 @@ number_start : {ws rest : List ℕ} (s : CountParsed ws rest) → s.start ≡ s.
 number_start {ws} {rest} s =
     let on = bit (mixed_mask_in ws) bits.reflectors in
     let kept = subst (KeptOf s.contour.place s.behind) s.parsed ((one_lawful on).kept s.contour.place s.behind) in
-    let behind = (found-sound ws (mixed_mask_in ws) (mixed_count_in ws) mixed_head_length s.contour.parsed).rest in
+    let behind = (found_sound ws (mixed_mask_in ws) (mixed_count_in ws) mixed_head_length s.contour.parsed).rest in
     let words : length s.behind ≡ length (words_of s.number) + length rest =
     ap length (sym behind ∙ (number_sound s).words) ∙ length-append (words_of s.number) rest in
     omega arith
@@ -68,22 +68,22 @@ module _ (ws : List ℕ) (s : MixedAccepted ws) where
   abbrev format : Format (Body SectorReading) (Body SectorFields)
   format = body (mixed_mask_in ws) (mixed_count_in ws)
 
-  contour-laid : contour (contour_in ws r) ≡ format.put (format.strip ws s.count.contour.value)
-  contour-laid =
+  contour_laid : contour (contour_in ws r) ≡ format.put (format.strip ws s.count.contour.value)
+  contour_laid =
       rw (
         rest_put (mixed_mask_in ws) (mixed_count_in ws) (contour_in ws r),
         found_all ws (mixed_mask_in ws) (mixed_count_in ws) mixed_head_length s.count.contour.parsed,
       )
 
-  contour-long : s.count.contour.place ≡ mixed_head_length + length (contour (contour_in ws r))
-  contour-long =
+  contour_long : s.count.contour.place ≡ mixed_head_length + length (contour (contour_in ws r))
+  contour_long =
       let found = s.count.contour.parsed in
-      let words = ap length (found-sound ws (mixed_mask_in ws) (mixed_count_in ws) mixed_head_length found).words in
+      let words = ap length (found_sound ws (mixed_mask_in ws) (mixed_count_in ws) mixed_head_length found).words in
       let both = words ∙ length-append (format.put (format.strip ws s.count.contour.value)) s.count.behind in
-      omega (arith, both, ap length contour-laid, found-kept ws (mixed_mask_in ws) (mixed_count_in ws) mixed_head_length found)
+      omega (arith, both, ap length contour_laid, found_kept ws (mixed_mask_in ws) (mixed_count_in ws) mixed_head_length found)
 
   starts : s.count.start ≡ length (words_before_reflectors ws r)
-  starts = omega (arith, contour-long, number_start s.count, length-append (contour (contour_in ws r)) (words_of s.count.number))
+  starts = omega (arith, contour_long, number_start s.count, length-append (contour (contour_in ws r)) (words_of s.count.number))
 
   within : (place : ℕ) → place < n → width ≤ length (drop (s.count.start + place * width) ws)
   within place h =
@@ -104,7 +104,7 @@ module _ (ws : List ℕ) (s : MixedAccepted ws) where
 
 pub reflectors_in_turn : ReflectorsInTurn
 reflectors_in_turn ws e =
-    let s = mixed-accepted ws e in
+    let s = mixed_accepted ws e in
     record {
       start = rw s.reading (starts ws s);
       one_after_another = rw s.reading (in_turns ws s);

@@ -15,9 +15,9 @@ use Rattle.reader.specs.declared.Reading.{Reading}
 use Rattle.reader.specs.Readings.{mask_in, count_in, head_refusal, sectors_in, body, accepted_reading, with_left, read_of}
 use Rattle.reader.specs.Stretches.{fields_in}
 use Rattle.reader.specs.Demands.{AcceptsExactly, PutTogether, ReadsBack, OneReading}
-use Rattle.reader.proofs.Accepted.{Parsed, Accepted, by_body, accepted, body-sound}
-use Rattle.reader.proofs.Laid.{body_fields, fields_of, acceptable, laid, contour-back, many-back, entries_read, counts, head-laid}
-use Rattle.reader.proofs.Readers.{Reads, takes-exactly, loses-none, laid-once}
+use Rattle.reader.proofs.Accepted.{Parsed, Accepted, by_body, accepted, body_sound}
+use Rattle.reader.proofs.Laid.{body_fields, fields_of, acceptable, laid, contour_back, many_back, entries_read, counts, head_laid}
+use Rattle.reader.proofs.Readers.{Reads, takes_exactly, loses_none, laid_once}
 
 -- what is read is laid out, before the words that are left
 
@@ -26,10 +26,10 @@ module _ {ws rest : List ℕ} (s : Parsed ws rest) where
   fields = fields_of (mask_in ws) ((body (mask_in ws) (count_in ws)).strip ws s.value)
 
   pub fields_fit : Acceptable fields
-  fields_fit = acceptable Kind.Plain ws s.head _ (body-sound s).fits
+  fields_fit = acceptable Kind.Plain ws s.head _ (body_sound s).fits
 
   pub laid_out : ws ≡ layout fields ++ rest
-  laid_out = sym (append-nil ws) ∙ laid Kind.Plain ws s.head _ (body-sound s).fits [] rest (append-nil _ ∙ (body-sound s).words)
+  laid_out = sym (append-nil ws) ∙ laid Kind.Plain ws s.head _ (body_sound s).fits [] rest (append-nil _ ∙ (body_sound s).words)
 
 whole_laid : (ws : List ℕ) (s : Accepted ws) → ws ≡ layout (fields s)
 whole_laid ws s = laid_out s ∙ append-nil (layout (fields s))
@@ -43,26 +43,26 @@ module _ (f : Fields) (w : Acceptable f) (more : List ℕ) where
   abbrev n : ℕ
   n = length f.sectors
 
-  pub head-passes : head_refusal (layout f ++ more) ≡ 0
-  head-passes = head-laid f w Kind.Plain (layout f ++ more) (omega arith) refl refl w.mask refl
+  pub head_passes : head_refusal (layout f ++ more) ≡ 0
+  head_passes = head_laid f w Kind.Plain (layout f ++ more) (omega arith) refl refl w.mask refl
 
   pub read_back : Complete (body m n) (layout f ++ more) head_length (body_fields f) more
-  read_back = contour-back f w.fits (layout f ++ more) head_length more refl
+  read_back = contour_back f w.fits (layout f ++ more) head_length more refl
 
   pub reading : read_of (layout f ++ more) ≡ with_left m n read_back.value more
   reading =
       rw (counts f w) at
-      (by_body (layout f ++ more) head-passes {g = got read_back.value read_back.place more} (rw (counts f w) read_back.reads))
+      (by_body (layout f ++ more) head_passes {g = got read_back.value read_back.place more} (rw (counts f w) read_back.reads))
 
-  same-fields : fields_in (layout f ++ more) (accepted_reading m n read_back.value) ≡ f
-  same-fields =
+  same_fields : fields_in (layout f ++ more) (accepted_reading m n read_back.value) ≡ f
+  same_fields =
       let v = read_back.value in
-      rw (entries_read (sectors_in v) n (many-back f w.fits (layout f ++ more) head_length more read_back)) (ap (fields_of m) read_back.same)
+      rw (entries_read (sectors_in v) n (many_back f w.fits (layout f ++ more) head_length more read_back)) (ap (fields_of m) read_back.same)
 
 pub reads_back : ReadsBack
 reads_back f w =
     subst (λ (ws : List ℕ). ((read_of ws).refusal ≡ 0) × (fields_in ws (read_of ws) ≡ f)) (append-nil (layout f))
-    (ap (λ (r : Reading). r.refusal) (reading f w []), ap (fields_in (layout f ++ [])) (reading f w []) ∙ same-fields f w [])
+    (ap (λ (r : Reading). r.refusal) (reading f w []), ap (fields_in (layout f ++ [])) (reading f w []) ∙ same_fields f w [])
 
 over_read : (f : Fields) → Acceptable f → (more : List ℕ) → T (some more) → (read_of (layout f ++ more)).refusal ≡ 16
 over_read f w [] t = absurd t
@@ -78,10 +78,10 @@ plain_reads =
     }
 
 pub accepts_exactly : AcceptsExactly
-accepts_exactly = takes-exactly plain_reads
+accepts_exactly = takes_exactly plain_reads
 
 pub put_together : PutTogether
-put_together = loses-none plain_reads
+put_together = loses_none plain_reads
 
 pub one_reading : OneReading
-one_reading = laid-once plain_reads
+one_reading = laid_once plain_reads

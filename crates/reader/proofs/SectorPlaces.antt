@@ -10,7 +10,7 @@ use Rattle.words.specs.Words.{number_of}
 use Rattle.words.specs.Places.{take_at, skip_at}
 use Rattle.words.proofs.Takes.{took_within}
 use Rattle.words.proofs.Lawful.{Lawful}
-use Rattle.words.proofs.Extends.{Extends, nothing_extends, many_extends, optional_extends, join_extends, recast-extends}
+use Rattle.words.proofs.Extends.{Extends, nothing_extends, many_extends, optional_extends, join_extends, recast_extends}
 use Rattle.words.proofs.Tracks.{Tracks, out_at, in_out, past_out, nothing_tracks, many_tracks, optional_tracks, join_tracks, recast_tracks}
 use Rattle.layout.specs.Bits as bits
 use Rattle.layout.specs.Masks.{point_width}
@@ -20,7 +20,7 @@ use Rattle.reader.specs.Sectors.{to_reading, from_reading, to_fields, from_field
 
 pub sector_extends : (mask : ℕ) → Extends (sector mask)
 sector_extends mask =
-    recast-extends to_reading from_reading to_fields from_fields (raw_sector mask)
+    recast_extends to_reading from_reading to_fields from_fields (raw_sector mask)
     (optional_extends (bit mask bits.number) _ λ number.
     optional_extends (bit mask bits.step) _ λ step.
     optional_extends (bit mask bits.points) _ λ points.
@@ -70,8 +70,8 @@ start_within {ws = ws} w =
 
 module _ (mask base : ℕ) (ws : List ℕ) where
   -- the sector by places, and the place behind it
-  unfoldable by-places : (a : SectorReading) × (j : ℕ) × Tracks (sector mask) ws base 0 a j
-  by-places = (
+  unfoldable by_places : (a : SectorReading) × (j : ℕ) × Tracks (sector mask) ws base 0 a j
+  by_places = (
     _,
     _,
     recast_tracks to_reading from_reading to_fields from_fields (raw_sector mask) {ws = ws} {base = base} {i = 0}
@@ -86,8 +86,8 @@ module _ (mask base : ℕ) (ws : List ℕ) where
         nothing_tracks _ _ i₇)),
   )
 
-  read-by-places : (sector mask).parse base ws ≡ out_at ws base by-places.0 by-places.1
-  read-by-places = rw add-zero at (by-places.2.reads zero-le)
+  read_by_places : (sector mask).parse base ws ≡ out_at ws base by_places.0 by_places.1
+  read_by_places = rw add-zero at (by_places.2.reads zero-le)
 
   module _ (w : Walk mask ws) where
     abbrev pub walked : SectorReading
@@ -105,10 +105,10 @@ module _ (mask base : ℕ) (ws : List ℕ) where
         }
 
     found : (sector mask).parse base ws ≡ out_at ws base walked w.enddir.at
-    unfolding by-places
+    unfolding by_places
     found =
         rw (
-          read-by-places,
+          read_by_places,
           ← w.is_number,
           ← w.is_step,
           ← w.is_points,
@@ -122,8 +122,8 @@ module _ (mask base : ℕ) (ws : List ℕ) where
           ← w.is_enddir,
         )
 
-    pub sector-cut : length ws < w.enddir.at → Cut ≡ found_of ((sector mask).parse base ws)
-    sector-cut h = sym (ap found_of (found ∙ past_out ws base walked w.enddir.at h))
+    pub sector_cut : length ws < w.enddir.at → Cut ≡ found_of ((sector mask).parse base ws)
+    sector_cut h = sym (ap found_of (found ∙ past_out ws base walked w.enddir.at h))
 
-    pub sector-whole : w.enddir.at ≤ length ws → Whole walked (base + w.enddir.at) ≡ found_of ((sector mask).parse base ws)
-    sector-whole h = sym (ap found_of (found ∙ in_out ws base walked w.enddir.at h))
+    pub sector_whole : w.enddir.at ≤ length ws → Whole walked (base + w.enddir.at) ≡ found_of ((sector mask).parse base ws)
+    sector_whole h = sym (ap found_of (found ∙ in_out ws base walked w.enddir.at h))

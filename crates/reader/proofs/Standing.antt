@@ -19,7 +19,7 @@ use Rattle.reader.specs.Readings.{mask_in, count_in, Body, sectors_in, body, pad
 use Rattle.reader.specs.Stretches.{sector_in, stretch_start}
 use Rattle.reader.specs.Demands.{StandsAtPlace}
 use Rattle.reader.proofs.Bodies.{body_lawful}
-use Rattle.reader.proofs.FoundSectors.{found-many, found_all, found_at}
+use Rattle.reader.proofs.FoundSectors.{found_many, found_all, found_at}
 use Rattle.reader.proofs.PointPlaces.{whole}
 use Rattle.reader.proofs.Laid.{sectors_laid}
 
@@ -59,14 +59,14 @@ module _ (ws : List ℕ) (mask count first : ℕ) {value : Body SectorReading} {
   abbrev sectors : List SectorReading
   sectors = sectors_in value
 
-  pub stands-behind : (get_or (padded sectors) place blank_sector).start
+  pub stands_behind : (get_or (padded sectors) place blank_sector).start
       ≡ first + length (
       (words_of value.0 ++ words_of value.1.0 ++ words_of value.1.1.0)
       ++ laid_all layout_sector (take place (map (sector_in ws) (take count (padded sectors))))
       ++ opening (sector_in ws (get_or (padded sectors) place blank_sector)))
-  stands-behind =
+  stands_behind =
       let all = subst (StandsOf (body mask count) ws first) parsed ((body_lawful mask count).located ws first) in
-      let there : place < length sectors = omega (arith, found-many ws mask count first parsed) in
+      let there : place < length sectors = omega (arith, found_many ws mask count first parsed) in
       let this = (stand_at (sector mask) ws _ sectors blank_sector place all.1.1.1.0 there).1.1.1.1.1.0 in
       let behind = laid_all (sector mask).put (map (sector_in ws) (take place sectors)) in
       rw (
@@ -82,4 +82,4 @@ unfolding stretch_start
 stands_at_place ws place here =
     let s = whole ws place here in
     rw (lt-ltb place (read_of ws).count here, s.reading)
-    (omega (arith, stands-behind ws (mask_in ws) (count_in ws) head_length s.parsed place (rw s.reading at here)))
+    (omega (arith, stands_behind ws (mask_in ws) (count_in ws) head_length s.parsed place (rw s.reading at here)))

@@ -1,4 +1,6 @@
 // The host's reader of profiles: it knows the layout, and no sensor.
+#![tactic(auto)]
+
 use words::Word;
 
 mod body;
@@ -17,7 +19,7 @@ pub use reflectors::{all_reflectors, reflector, reflector_refusal};
 pub use stretches::{stretch, stretch_refusal};
 
 // The words of a sector, absent where the mask has no bit for them, and the place of its points in the words given (rule 5.11).
-#[derive(Drop)]
+#[derive(Clone, Copy)]
 pub struct SectorReading {
     pub number: Word,
     pub step: Word,
@@ -31,7 +33,7 @@ pub struct SectorReading {
 }
 
 // The part of a profile to which a word belongs; a sector goes by its place, from 0 on (rule 5.16).
-#[derive(Drop)]
+#[derive(Clone, Copy)]
 pub enum Part {
     Head,
     Sector(usize),
@@ -39,14 +41,14 @@ pub enum Part {
 }
 
 // Where the words end early, with refusal 15 alone: the index of the first missing word, and its part (rule 5.16).
-#[derive(Drop)]
+#[derive(Clone, Copy)]
 pub enum Place {
     Nowhere,
     At(usize, Part),
 }
 
 // A profile's words: the number for no and its place, the head, how many sectors there are, the sectors, SENSTAT (rule 5.11).
-#[derive(Drop)]
+#[derive(Clone, Copy)]
 pub struct Reading {
     pub refusal: u16,
     pub place: Place,
@@ -62,7 +64,7 @@ pub struct Reading {
 
 // The part of a mixed profile to which a word belongs: one that a plain profile has too, the count, or a reflector by its place, from 0
 // on (rule 5.25).
-#[derive(Drop)]
+#[derive(Clone, Copy)]
 pub enum MixedPart {
     Contour(Part),
     Count,
@@ -70,7 +72,7 @@ pub enum MixedPart {
 }
 
 // Where the words end early, with refusal 15 alone: the index of the first missing word, and its part (rule 5.25).
-#[derive(Drop)]
+#[derive(Clone, Copy)]
 pub enum MixedPlace {
     Nowhere,
     At(usize, MixedPart),
@@ -78,7 +80,7 @@ pub enum MixedPlace {
 
 // A mixed profile's words: the number for no and its place, the mask's high and low word, the head, how many sectors there are, the
 // sectors, SENSTAT; how many reflectors there are, where their words begin, and how many each has (rule 5.23).
-#[derive(Drop)]
+#[derive(Clone, Copy)]
 pub struct MixedReading {
     pub refusal: u16,
     pub place: MixedPlace,
@@ -98,7 +100,7 @@ pub struct MixedReading {
 
 // What reading a contour finds: the place behind it, one past the end where the words end early, and the part at which they end then; and
 // its words.
-#[derive(Drop)]
+#[derive(Clone, Copy)]
 pub(crate) struct ContourFound {
     pub at: usize,
     pub part: Part,
@@ -111,14 +113,14 @@ pub(crate) struct ContourFound {
 }
 
 // What reading a sector finds: that the words end early, or the sector and the place behind it.
-#[derive(Drop)]
+#[derive(Clone, Copy)]
 pub(crate) enum Found {
     Cut,
     Whole(SectorReading, usize),
 }
 
 // What reading the sectors finds: the place behind them, one past the end where the words end early, how many were begun, and the sectors.
-#[derive(Drop)]
+#[derive(Clone, Copy)]
 pub(crate) struct Sectors {
     pub at: usize,
     pub begun: usize,

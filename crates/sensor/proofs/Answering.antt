@@ -41,15 +41,15 @@ said_of_lem code v (inr e) = rw e
 
 module _ (r : Served) (s : State) (ws : List ℕ) (v : Service) (want code n : ℕ) (e0 : code ≡ get_or ws 0 0) (en : n ≡ response code % 65536)
     (ev : v ≡ service_of code) (ew : want ≡ (row_of v).words_in) where
-  pub miscount-said : (k : Miscount) → k ≡ (row_of v).miscount → (length ws ≡ want → ⊥) → Gives r (answer s (said_of k n)) → Gives r (outcome s ws)
+  pub miscount_said : (k : Miscount) → k ≡ (row_of v).miscount → (length ws ≡ want → ⊥) → Gives r (answer s (said_of k n)) → Gives r (outcome s ws)
   unfolding outcome
-  miscount-said k ek h g =
+  miscount_said k ek h g =
       rw (← e0, ← ev, ← ew, ne_eqb _ _ h, ← said_of_lem code v (rw ev (service_has code))) (rw (ek, en) at g)
 
-  pub words-served : (a b c d : ℕ) → Gives r ((row_of v).does s n a b c d) → length ws ≡ want
+  pub words_served : (a b c d : ℕ) → Gives r ((row_of v).does s n a b c d) → length ws ≡ want
       → a ≡ get_or ws 1 0 → b ≡ get_or ws 2 0 → c ≡ get_or ws 3 0 → d ≡ get_or ws 4 0 → Gives r (outcome s ws)
   unfolding outcome
-  words-served a b c d g h e1 e2 e3 e4 =
+  words_served a b c d g h e1 e2 e3 e4 =
       rw (← e0, ← e1, ← e2, ← e3, ← e4, ← ev, ← ew, eq-eqb _ _ h, ← answered_so code v (rw ev (service_has code)) s a b c d) (rw en at g)
 
 -- `deliver`

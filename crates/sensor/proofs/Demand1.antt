@@ -24,7 +24,7 @@ use Rattle.sensor.specs.declared.Service.{Service}
 use Rattle.sensor.specs.Table.{row_of, services, named, service_of, allowed, is_listed, count_refused}
 use Rattle.sensor.specs.Requests.{service_refusal, request_refusal, outcome, request_of}
 use Rattle.sensor.specs.Demands.{RefusalsChangeNothing, RefusalsExactly, RoomForAll, RangesKept}
-use Rattle.sensor.proofs.Lawful.{outcome-fine}
+use Rattle.sensor.proofs.Lawful.{outcome_fine}
 
 -- what holds of every refusal, and of the outcome of a request that none of 1 to 5 refuses, holds of the request
 pub requested_by : (P : Result → Type 0) (s : State) (ws : List ℕ) (room : ℕ) → ((n : ℕ) → P (refused s n))
@@ -54,15 +54,15 @@ module _ (r : Reply) (d d' : List ℕ) (s : State) (ws : List ℕ) (a : Answered
   fits : length (request_of s ws (length d)).written ≤ length d
   fits = rw (← requested_count s ws (length d)) (requested_room s ws (length d))
 
-  pub answer-within : r.count ≤ length d'
-  answer-within = rw (a.reply, a.buffer, over_length _ d fits) (requested_room s ws (length d))
+  pub answer_within : r.count ≤ length d'
+  answer_within = rw (a.reply, a.buffer, over_length _ d fits) (requested_room s ws (length d))
 
-  pub answer-counted : r.count ≡ length (take r.count d')
-  answer-counted = sym (length-take-le r.count d' answer-within)
+  pub answer_counted : r.count ≡ length (take r.count d')
+  answer_counted = sym (length-take-le r.count d' answer_within)
 
-  pub answer-words : take r.count d' ≡ (request_of s ws (length d)).written
+  pub answer_words : take r.count d' ≡ (request_of s ws (length d)).written
   unfolding over
-  answer-words = rw (a.reply, a.buffer, requested_count s ws (length d)) (take-append_seam _ _)
+  answer_words = rw (a.reply, a.buffer, requested_count s ws (length d)) (take-append_seam _ _)
 
 pub refusals_change_nothing : RefusalsChangeNothing
 refusals_change_nothing s ws d =
@@ -157,7 +157,7 @@ word_fits (w ∷ ws) (suc i) h = word_fits ws i (and_r (ltb w 65536) (are_words 
 pub ranges_kept : RangesKept
 ranges_kept s ws room w h =
     requested_by (λ x. T (in_range x.reply.state)) s ws room (λ _. h)
-    (λ e. whole _ ((outcome-fine s ws).kept (word_fits ws 1 w, (served_so s ws e).1) (parts s h)))
+    (λ e. whole _ ((outcome_fine s ws).kept (word_fits ws 1 w, (served_so s ws e).1) (parts s h)))
 
 -- with room for the longest answer 6 is not given
 not_six : (b : Bool) (n : ℕ) → n ≤ 5 → ◌≡◌ {A = ℕ} (if b then 0 else n) 6 → ⊥
@@ -180,6 +180,6 @@ below s ws =
 
 pub room_for_all : RoomForAll
 room_for_all s ws room h q =
-    let short = (outcome-fine s ws).short in
+    let short = (outcome_fine s ws).short in
     let fits = le-ltb room (length (outcome s ws).words) (omega arith) in
     not_six (eqb (request_refusal s ws) 0) (request_refusal s ws) (below s ws) (rw fits at (sym (number_is s ws room) ∙ q))

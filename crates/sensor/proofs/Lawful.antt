@@ -52,37 +52,37 @@ pub lawful : (v : Service) → Lawful v
 unfolding service_of
 lawful Service.GetStatus = record { found = refl; fine = λ s r a b c d. stays r s _ refl tt refl }
 lawful Service.GetSignal = record { found = refl; fine = λ s r a b c d. stays r s _ refl tt refl }
-lawful Service.SetSignal = record { found = refl; fine = λ s r a b c d. law.signal-fine s r a }
+lawful Service.SetSignal = record { found = refl; fine = λ s r a b c d. law.signal_fine s r a }
 lawful Service.SetConfig =
-    record { found = refl; fine = λ s r a b c d. law.config-fine s r (unlisted Service.SetConfig s a Measure (λ h. h)) a b c d }
+    record { found = refl; fine = λ s r a b c d. law.config_fine s r (unlisted Service.SetConfig s a Measure (λ h. h)) a b c d }
 lawful Service.GetConfig =
     record {
       found = refl;
       fine = λ s r a b c d. picked (FineRow Service.GetConfig s r a b c d) (eqb a config_item) _ _ (stays r s _ refl tt refl) (stays r s _ refl tt refl);
     }
 lawful Service.SetFunction =
-    record { found = refl; fine = λ s r a b c d. law.function-fine s r (unlisted Service.SetFunction s a Measure (λ h. h)) a b c d }
+    record { found = refl; fine = λ s r a b c d. law.function_fine s r (unlisted Service.SetFunction s a Measure (λ h. h)) a b c d }
 lawful Service.GetFunction =
     record {
       found = refl;
       fine = λ s r a b c d. picked (FineRow Service.GetFunction s r a b c d) (ltb 7 a) _ _ (stays r s _ refl tt refl) (stays r s _ refl tt refl);
     }
 lawful Service.GetProfile =
-    record { found = refl; fine = λ s r a b c d. rw or-false (law.profile-fine s r a b (λ q. q.0) (λ q. only_measure s.mode q.1)) }
-lawful Service.CancelProfile = record { found = refl; fine = λ s r a b c d. law.cancel-fine s r }
-lawful Service.DoReset = record { found = refl; fine = λ s r a b c d. law.reset-fine s r a }
-lawful Service.TransIdle = record { found = refl; fine = λ s r a b c d. law.idle-fine s r }
-lawful Service.TransRotate = record { found = refl; fine = λ s r a b c d. law.rotate-fine s r a }
+    record { found = refl; fine = λ s r a b c d. rw or-false (law.profile_fine s r a b (λ q. q.0) (λ q. only_measure s.mode q.1)) }
+lawful Service.CancelProfile = record { found = refl; fine = λ s r a b c d. law.cancel_fine s r }
+lawful Service.DoReset = record { found = refl; fine = λ s r a b c d. law.reset_fine s r a }
+lawful Service.TransIdle = record { found = refl; fine = λ s r a b c d. law.idle_fine s r }
+lawful Service.TransRotate = record { found = refl; fine = λ s r a b c d. law.rotate_fine s r a }
 lawful Service.TransMeasure =
-    record { found = refl; fine = λ s r a b c d. law.measure-fine s r (unlisted Service.TransMeasure s a Idle (λ h. h)) }
-lawful Service.SetRotateDirection = record { found = refl; fine = λ s r a b c d. settings.rotation-fine s r a }
-lawful Service.SetReflectorConfig = record { found = refl; fine = λ s r a b c d. settings.reflector-fine s r a b }
+    record { found = refl; fine = λ s r a b c d. law.measure_fine s r (unlisted Service.TransMeasure s a Idle (λ h. h)) }
+lawful Service.SetRotateDirection = record { found = refl; fine = λ s r a b c d. settings.rotation_fine s r a }
+lawful Service.SetReflectorConfig = record { found = refl; fine = λ s r a b c d. settings.reflector_fine s r a b }
 lawful Service.GetRotateDirection = record { found = refl; fine = λ s r a b c d. stays r s _ refl tt refl }
 lawful Service.GetReflectorConfig = record { found = refl; fine = λ s r a b c d. stays r s _ refl tt refl }
 lawful Service.GetMixedProfile =
-    record { found = refl; fine = λ s r a b c d. mixed.mixed-profile-fine s r a b c (λ q. q.0) (λ q. only_measure s.mode q.1) }
-lawful Service.CancelMixedProfile = record { found = refl; fine = λ s r a b c d. mixed.cancel-mixed-fine s r }
-lawful Service.SavePermanent = record { found = refl; fine = λ s r a b c d. settings.save-fine s r }
+    record { found = refl; fine = λ s r a b c d. mixed.mixed_profile_fine s r a b c (λ q. q.0) (λ q. only_measure s.mode q.1) }
+lawful Service.CancelMixedProfile = record { found = refl; fine = λ s r a b c d. mixed.cancel_mixed_fine s r }
+lawful Service.SavePermanent = record { found = refl; fine = λ s r a b c d. settings.save_fine s r }
 lawful Service.Unknown = record { found = refl; fine = λ s r a b c d. stays r s [] refl tt refl }
 
 -- an answer to a wrong number of words is fine in every row: it leaves the state
@@ -106,9 +106,9 @@ module _ (s : State) (ws : List ℕ) where
   done = outcome_of v s (get_or ws 1 0) (get_or ws 2 0) (get_or ws 3 0) (get_or ws 4 0)
 
   -- what holds of both holds of the outcome
-  pub outcome-by : (P : Outcome → Type 0) → P said → P done → P (outcome s ws)
+  pub outcome_by : (P : Outcome → Type 0) → P said → P done → P (outcome s ws)
   unfolding outcome
-  outcome-by P = picked P (miscounted v (length ws)) said done
+  outcome_by P = picked P (miscounted v (length ws)) said done
 
   -- no word is due: the number of words is wrong and refused, or right and the service gives none
   abbrev unanswered : Bool → Bool
@@ -118,9 +118,9 @@ module _ (s : State) (ws : List ℕ) where
   FineSo wrong = Fine (unanswered wrong) code (row_of v).changes (Asked v s (get_or ws 1 0)) s
 
   -- so every outcome of a request is fine
-  pub outcome-fine : FineSo (miscounted v (length ws)) (outcome s ws)
+  pub outcome_fine : FineSo (miscounted v (length ws)) (outcome s ws)
   unfolding outcome
-  outcome-fine = go (miscounted v (length ws))
+  outcome_fine = go (miscounted v (length ws))
     where
       go : (wrong : Bool) → FineSo wrong (if wrong then said else done)
       go true = said_fine (row_of v).miscount s code (row_of v).changes (Asked v s (get_or ws 1 0)) (said_short (get_or ws 0 0) code)

@@ -16,7 +16,7 @@ use Rattle.services.specs.Measurement.{cancelled}
 use Rattle.sensor.specs.declared.Service.{Service}
 use Rattle.sensor.specs.Table.{row_of, service_of, outcome_of}
 use Rattle.sensor.specs.Requests.{request_of}
-use Rattle.sensor.proofs.Lawful.{lawful, outcome-by}
+use Rattle.sensor.proofs.Lawful.{lawful, outcome_by}
 use Rattle.sensor.proofs.Demand1.{requested_by}
 
 abbrev pub other : Kind → Kind
@@ -43,11 +43,11 @@ left_by : (w : Service) (s : State) → ((a b c d : ℕ) → (outcome_of w s a b
     → get_or ws 0 0 ≡ (row_of w).code → (request_of s ws room).reply.state ≡ s
 left_by w s h ws room e =
     requested_by (λ x. x.reply.state ≡ s) s ws room (λ _. refl)
-    (λ _. outcome-by s ws (λ o. o.after ≡ s) refl (rw (ap service_of e ∙ (lawful w).found) (h _ _ _ _)))
+    (λ _. outcome_by s ws (λ o. o.after ≡ s) refl (rw (ap service_of e ∙ (lawful w).found) (h _ _ _ _)))
 
 module _ (s : State) (ws : List ℕ) (room : ℕ) where
-  pub mixed-left : T (has_kind Kind.Mixed s.job) → get_or ws 0 0 ≡ (row_of Service.CancelProfile).code → (request_of s ws room).reply.state ≡ s
-  mixed-left h = left_by Service.CancelProfile s (λ a b c d. not_cancelled Kind.Plain s h) ws room
+  pub mixed_left : T (has_kind Kind.Mixed s.job) → get_or ws 0 0 ≡ (row_of Service.CancelProfile).code → (request_of s ws room).reply.state ≡ s
+  mixed_left h = left_by Service.CancelProfile s (λ a b c d. not_cancelled Kind.Plain s h) ws room
 
-  pub plain-left : T (has_kind Kind.Plain s.job) → get_or ws 0 0 ≡ (row_of Service.CancelMixedProfile).code → (request_of s ws room).reply.state ≡ s
-  plain-left h = left_by Service.CancelMixedProfile s (λ a b c d. not_cancelled Kind.Mixed s h) ws room
+  pub plain_left : T (has_kind Kind.Plain s.job) → get_or ws 0 0 ≡ (row_of Service.CancelMixedProfile).code → (request_of s ws room).reply.state ≡ s
+  plain_left h = left_by Service.CancelMixedProfile s (λ a b c d. not_cancelled Kind.Mixed s h) ws room

@@ -17,11 +17,11 @@ use Rattle.sensor.specs.Requests.{service_refusal, request_refusal}
 
 -- `mode_refusal`
 module _ (a u : Bool) (e : a ≡ u) where
-  pub not-in-mode : not a ≡ true → ◌≡◌ {A = ℕ} 5 (if not u then 5 else 0)
-  not-in-mode q = rw (said_no e q)
+  pub not_in_mode : not a ≡ true → ◌≡◌ {A = ℕ} 5 (if not u then 5 else 0)
+  not_in_mode q = rw (said_no e q)
 
-  pub in-mode : not a ≡ false → ◌≡◌ {A = ℕ} 0 (if not u then 5 else 0)
-  in-mode q = rw (said_yes e q)
+  pub in_mode : not a ≡ false → ◌≡◌ {A = ℕ} 0 (if not u then 5 else 0)
+  in_mode q = rw (said_yes e q)
 
 -- `service_refusal`
 module _ (v : Service) (want : ℕ) (i r m : Bool) (k : Miscount) (code count : ℕ) (mode : Mode) (l : Lists v want i r m k code) where
@@ -33,24 +33,24 @@ module _ (v : Service) (want : ℕ) (i r m : Bool) (k : Miscount) (code count : 
   not_listed h = rw (← want_is, eq-eqb _ _ h)
 
   module _ (some : want ≡ 0 → ⊥) (n : ℕ) (en : n ≡ (if not (listed i r m mode) then 5 else 0)) where
-    mode-is : n ≡ (if not (allowed (service_of code) mode) then 5 else 0)
-    mode-is = rw (← l.service, ← l.idle, ← l.rotate, ← l.measure) en
+    mode_is : n ≡ (if not (allowed (service_of code) mode) then 5 else 0)
+    mode_is = rw (← l.service, ← l.idle, ← l.rotate, ← l.measure) en
 
-    pub right-count : count ≡ want → n ≡ service_refusal (service_of code) count mode
+    pub right_count : count ≡ want → n ≡ service_refusal (service_of code) count mode
     unfolding service_refusal
-    right-count h = rw (← want_is, ne_eqb _ _ some, eq-eqb _ _ h) mode-is
+    right_count h = rw (← want_is, ne_eqb _ _ some, eq-eqb _ _ h) mode_is
 
     module _ (wrong : count ≡ want → ⊥) (f : Bool) (ef : f ≡ is_refused k) where
-      test-is : is_refused (row_of (service_of code)).miscount ≡ f
-      test-is = rw (ef, l.miscount, l.service)
+      test_is : is_refused (row_of (service_of code)).miscount ≡ f
+      test_is = rw (ef, l.miscount, l.service)
 
-      pub refused-count : f ≡ true → 4 ≡ service_refusal (service_of code) count mode
+      pub refused_count : f ≡ true → 4 ≡ service_refusal (service_of code) count mode
       unfolding service_refusal
-      refused-count h = rw (test-is ∙ h, ← want_is, ne_eqb _ _ some, ne_eqb _ _ wrong)
+      refused_count h = rw (test_is ∙ h, ← want_is, ne_eqb _ _ some, ne_eqb _ _ wrong)
 
-      pub said-count : f ≡ false → n ≡ service_refusal (service_of code) count mode
+      pub said_count : f ≡ false → n ≡ service_refusal (service_of code) count mode
       unfolding service_refusal
-      said-count h = rw (test-is ∙ h, ← want_is, ne_eqb _ _ some, ne_eqb _ _ wrong) mode-is
+      said_count h = rw (test_is ∙ h, ← want_is, ne_eqb _ _ some, ne_eqb _ _ wrong) mode_is
 
 -- `request_refusal`
 module _ (s : State) (ws : List ℕ) (a : Bool) (ea : a ≡ in_range s) where
@@ -63,7 +63,7 @@ module _ (s : State) (ws : List ℕ) (a : Bool) (ea : a ≡ in_range s) where
     unfolding request_refusal
     no_words h = rw (said_yes ea qa, eq-eqb _ _ h)
 
-    pub by-service : (length ws ≡ 0 → ⊥) → (n : ℕ) → n ≡ service_refusal (service_of (get_or ws 0 0)) (length ws) s.mode
+    pub by_service : (length ws ≡ 0 → ⊥) → (n : ℕ) → n ≡ service_refusal (service_of (get_or ws 0 0)) (length ws) s.mode
         → n ≡ request_refusal s ws
     unfolding request_refusal
-    by-service h n en = rw (said_yes ea qa, ne_eqb _ _ h) en
+    by_service h n en = rw (said_yes ea qa, ne_eqb _ _ h) en

@@ -26,9 +26,9 @@ use Rattle.sensor.specs.declared.Service.{Service}
 use Rattle.sensor.specs.Table.{row_of, response, service_of, outcome_of, silent}
 use Rattle.sensor.specs.Requests.{request_of}
 use Rattle.sensor.specs.Demands.{TableHolds, OnlyThese}
-use Rattle.sensor.proofs.Lawful.{lawful, outcome-by, outcome-fine}
+use Rattle.sensor.proofs.Lawful.{lawful, outcome_by, outcome_fine}
 use Rattle.sensor.proofs.Demand1.{requested_by, served_so}
-use Rattle.sensor.proofs.OtherKind.{mixed-left, plain-left}
+use Rattle.sensor.proofs.OtherKind.{mixed_left, plain_left}
 
 -- the first word, and whether there is one
 first_word : (b : Bool) (code : ℕ) (ws : List ℕ) → Responds b code ws → T (not b) → take 1 ws ≡ code ∷ []
@@ -126,7 +126,7 @@ request_no : (w : Service) (words : List ℕ) → SaysNoBy w words → (s : Stat
     → (request_of s ws room).written ≡ response (row_of w).code ∷ words → (request_of s ws room).reply.state ≡ s
 request_no w words h s ws room =
     requested_by (λ x. x.written ≡ response (row_of w).code ∷ words → x.reply.state ≡ s) s ws room (λ _ _. refl)
-    (λ _. outcome-by s ws (λ o. o.words ≡ response (row_of w).code ∷ words → o.after ≡ s) (λ _. refl)
+    (λ _. outcome_by s ws (λ o. o.words ≡ response (row_of w).code ∷ words → o.after ≡ s) (λ _. refl)
     (said_no_by w words h s (service_of (get_or ws 0 0)) _ _ _ _))
 
 pub only_these : OnlyThese
@@ -134,13 +134,13 @@ only_these s ws room =
     record {
       only =
           requested_by (λ x. x.reply.state ≡ only_in changes s x.reply.state) s ws room (λ _. same_in changes s)
-          (λ e. (outcome-fine s ws).only (parts s (served_so s ws e).0));
+          (λ e. (outcome_fine s ws).only (parts s (served_so s ws e).0));
       no_config = request_no Service.SetConfig (no_value ∷ []) set_config_no s ws room;
       no_rotation = request_no Service.SetRotateDirection (bad_value ∷ []) rotation_no s ws room;
       no_reflector = λ a b bad. request_no Service.SetReflectorConfig (a ∷ b ∷ []) (reflector_no a b bad) s ws room;
       no_mask = λ high low. request_no Service.GetMixedProfile (high ∷ low ∷ bad_value ∷ []) (mask_no high low) s ws room;
-      mixed_goes_on = mixed-left s ws room;
-      plain_goes_on = plain-left s ws room;
+      mixed_goes_on = mixed_left s ws room;
+      plain_goes_on = plain_left s ws room;
     }
   where
     changes : List Part

@@ -1,4 +1,6 @@
 // The sensor's side of a request: the table of the services, the refusals, and the answer into a lent buffer.
+#![tactic(auto)]
+
 mod counts;
 mod requests;
 mod table;
@@ -6,7 +8,7 @@ mod table;
 pub use requests::request;
 
 // The services of the table, and what stands for a code that is not in it (rule 4.3).
-#[derive(Drop)]
+#[derive(Clone, Copy)]
 pub enum Service {
     GetStatus,
     GetSignal,
@@ -32,7 +34,7 @@ pub enum Service {
 }
 
 // What becomes of a wrong number of words: it is refused, or answered, by the response code and then no value so many times (rule 4.25).
-#[derive(Drop)]
+#[derive(Clone, Copy)]
 pub enum Miscount {
     Refused,
     NoValues(usize),

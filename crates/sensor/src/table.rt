@@ -15,7 +15,7 @@ const RESPONSE: u32 = 0x8000;
 
 // A row: the service, how many words come in, the code's included, whether IDLE, ROTATE and MEASURE are listed, and what becomes of another
 // number of words.
-#[derive(Drop)]
+#[derive(Clone, Copy)]
 pub(crate) struct Row(pub Service, pub usize, bool, bool, bool, pub Miscount);
 
 // The row of a code.

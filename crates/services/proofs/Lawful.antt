@@ -33,7 +33,7 @@ use Rattle.state.specs.Fields.{with_config, with_plans, with_drive, with_port, w
 use Rattle.state.specs.Ranges.{speed_ok, config_ok, running_ok, checks_ok, job_ok}
 use Rattle.state.specs.Replies.{Outcome}
 use Rattle.state.proofs.SettingsParts.{InRanges}
-use Rattle.state.proofs.Parts.{Parts, stored_of, settings_of_lem, config-set, plans-set, drive-set, port-set, counter-set, settings-set}
+use Rattle.state.proofs.Parts.{Parts, stored_of, settings_of_lem, config_set, plans_set, drive_set, port_set, counter_set, settings_set}
 use Rattle.services.specs.Answers.{answer, answer_status, senstat, longest}
 use Rattle.services.specs.Configuration.{config_item, config_taken, set_config, sector_set, function_set, stop_set, working_set, set_function}
 use Rattle.services.specs.Measurement.{new_job, starts_job, get_profile, cancelled, cancel_profile}
@@ -74,13 +74,13 @@ module _ {silent : Bool} {changes : List Part} {Asked : Type 0} (code : ℕ) (s 
   pub stays : s ≡ only_in changes s s → Fine silent code changes Asked s (answer s ws)
   stays o = sets s (λ _. o) (λ h. h) (λ _ p. p)
 
-  pub sets-port : (port : ℕ) → with_port s port ≡ only_in changes s (with_port s port) → Fine silent code changes Asked s (answer (with_port s port) ws)
-  sets-port port o = sets (with_port s port) (λ _. o) (λ h. h) (λ _ p. port-set s p port)
+  pub sets_port : (port : ℕ) → with_port s port ≡ only_in changes s (with_port s port) → Fine silent code changes Asked s (answer (with_port s port) ws)
+  sets_port port o = sets (with_port s port) (λ _. o) (λ h. h) (λ _ p. port_set s p port)
 
-  pub sets-drive : (m : Mode) (r : ℕ) (j : Job) → (Parts s → with_drive s m r j ≡ only_in changes s (with_drive s m r j))
+  pub sets_drive : (m : Mode) (r : ℕ) (j : Job) → (Parts s → with_drive s m r j ≡ only_in changes s (with_drive s m r j))
       → (Asked → Parts s → T (running_ok m r) × T (checks_ok m s.working s.step.0 r) × T (job_ok m j))
       → Fine silent code changes Asked s (answer (with_drive s m r j) ws)
-  sets-drive m r j o h = sets (with_drive s m r j) o (λ h. h) (λ q p. drive-set s p m r j (h q p).0 (h q p).1 (h q p).2)
+  sets_drive m r j o h = sets (with_drive s m r j) o (λ h. h) (λ q p. drive_set s p m r j (h q p).0 (h q p).1 (h q p).2)
 
 -- the function that SET_FUNCTION sets is one that an entry may have
 function_ok : (f : ℕ) → T (eqb (function_set f) 0 || is_function (function_set f))
@@ -150,23 +150,23 @@ checked m working step running e h =
 -- The services that change the state
 
 module _ {Asked : Type 0} (s : State) (code : ℕ) where
-  pub signal-fine : (word : ℕ) → Fine false code (part.port ∷ []) Asked s (set_signal s code word)
-  signal-fine word = sets-port code s _ refl tt _ refl
+  pub signal_fine : (word : ℕ) → Fine false code (part.port ∷ []) Asked s (set_signal s code word)
+  signal_fine word = sets_port code s _ refl tt _ refl
 
-  pub config-fine : (Asked → s.mode ≡ Measure → ⊥) → (item id speed step : ℕ)
+  pub config_fine : (Asked → s.mode ≡ Measure → ⊥) → (item id speed step : ℕ)
       → Fine false code (part.config ∷ []) Asked s (set_config s code item id speed step)
-  config-fine m item id speed step =
+  config_fine m item id speed step =
       chosen (Fine false code (part.config ∷ []) Asked s) (λ o. o) (config_taken item id speed step) _ _
       (λ e. sets code s _ refl tt (with_config s id speed step) (λ _. refl) (λ h. h)
-      (λ q p. config-set s p id speed step (ranges e) (unchecked s.mode s.working step s.running (m q))))
+      (λ q p. config_set s p id speed step (ranges e) (unchecked s.mode s.working step s.running (m q))))
       (λ _. stays code s _ refl tt refl)
     where
       ranges : config_taken item id speed step ≡ true → T (config_ok id speed step)
       ranges e = and_r (eqb item config_item) (config_ok id speed step) (holds e)
 
-  pub function-fine : (Asked → s.mode ≡ Measure → ⊥) → (number function stop flash : ℕ)
+  pub function_fine : (Asked → s.mode ≡ Measure → ⊥) → (number function stop flash : ℕ)
       → Fine false code (part.working ∷ part.stored ∷ []) Asked s (set_function s code number function stop flash)
-  function-fine m number function stop flash =
+  function_fine m number function stop flash =
       chosen (Fine false code (part.working ∷ part.stored ∷ []) Asked s) (λ t. answer (with_plans s w t) words) (eqb flash 1) w s.stored
       (λ _. set w (λ h. long h.0) (λ p. ok p)) (λ _. set s.stored (λ h. h.1) (λ p. stored_of s p))
     where
@@ -186,37 +186,37 @@ module _ {Asked : Type 0} (s : State) (code : ℕ) where
           → Fine false code (part.working ∷ part.stored ∷ []) Asked s (answer (with_plans s w t) words)
       set t l k =
           sets code s words refl tt (with_plans s w t) (λ _. refl) (λ h. (long h.0, l h))
-          (λ q p. plans-set s p w t (ok p) (k p) (unchecked s.mode w s.step.0 s.running (m q)))
+          (λ q p. plans_set s p w t (ok p) (k p) (unchecked s.mode w s.step.0 s.running (m q)))
 
   -- a job starts, or words are answered: whatever the mask's kind, where it is one that a job may have
-  pub starts-fine : (starts : Bool) (number : ℕ) (mask : Mask) (ws : List ℕ) → Responds false code ws → T (leb (length ws) longest)
+  pub starts_fine : (starts : Bool) (number : ℕ) (mask : Mask) (ws : List ℕ) → Responds false code ws → T (leb (length ws) longest)
       → (starts ≡ true → T (admitted mask)) → (Asked → number ≤ 65535) → (Asked → s.mode ≡ Measure)
       → Fine starts code (part.job ∷ []) Asked s
       (if starts then answer (with_drive s s.mode s.running (new_job number mask)) [] else answer s ws)
-  starts-fine true number mask ws first few k l m =
-      sets-drive code s [] refl tt s.mode s.running (new_job number mask) (λ _. refl)
+  starts_fine true number mask ws first few k l m =
+      sets_drive code s [] refl tt s.mode s.running (new_job number mask) (λ _. refl)
       (λ q p. (p.running, p.checks, rw (m q) (new_job_ok number mask (l q) (k refl))))
-  starts-fine false number mask ws first few k l m = stays code s ws first few refl
+  starts_fine false number mask ws first few k l m = stays code s ws first few refl
 
-  pub profile-fine : (number mask : ℕ) → (Asked → number ≤ 65535) → (Asked → s.mode ≡ Measure)
+  pub profile_fine : (number mask : ℕ) → (Asked → number ≤ 65535) → (Asked → s.mode ≡ Measure)
       → Fine (starts_job mask) code (part.job ∷ []) Asked s (get_profile s code number mask)
-  profile-fine number mask =
-      starts-fine (starts_job mask) number (Mask.Plain (cleared mask)) (code ∷ []) refl tt (λ e. cleared_ok mask (not-true (eqb (cleared mask) 0) e))
+  profile_fine number mask =
+      starts_fine (starts_job mask) number (Mask.Plain (cleared mask)) (code ∷ []) refl tt (λ e. cleared_ok mask (not-true (eqb (cleared mask) 0) e))
 
   -- a job of the kind ends, and words are answered of the state behind
-  pub cancelled-fine : (kind : Kind) (ws : State → List ℕ) → ((t : State) → Responds false code (ws t))
+  pub cancelled_fine : (kind : Kind) (ws : State → List ℕ) → ((t : State) → Responds false code (ws t))
       → ((t : State) → T (leb (length (ws t)) longest))
       → Fine false code (part.job ∷ []) Asked s (answer (cancelled kind s) (ws (cancelled kind s)))
-  cancelled-fine kind ws first few =
+  cancelled_fine kind ws first few =
       chosen (Fine false code (part.job ∷ []) Asked s) (λ t. answer t (ws t)) (has_kind kind s.job) _ _
-      (λ _. sets-drive code s _ (first _) (few _) s.mode s.running Absent (λ _. refl) (λ _ p. (p.running, p.checks, tt)))
+      (λ _. sets_drive code s _ (first _) (few _) s.mode s.running Absent (λ _. refl) (λ _ p. (p.running, p.checks, tt)))
       (λ _. stays code s _ (first s) (few s) refl)
 
-  pub cancel-fine : Fine false code (part.job ∷ []) Asked s (cancel_profile s code)
-  cancel-fine = cancelled-fine Kind.Plain (λ t. code ∷ senstat t) (λ _. refl) (λ _. tt)
+  pub cancel_fine : Fine false code (part.job ∷ []) Asked s (cancel_profile s code)
+  cancel_fine = cancelled_fine Kind.Plain (λ t. code ∷ senstat t) (λ _. refl) (λ _. tt)
 
-  pub reset-fine : (level : ℕ) → Fine false code reset_parts Asked s (do_reset s code level)
-  reset-fine level =
+  pub reset_fine : (level : ℕ) → Fine false code reset_parts Asked s (do_reset s code level)
+  reset_fine level =
       chosen (Fine false code reset_parts Asked s) (λ t. answer t words) (ltb level 2) _ _ (λ _. cold)
       (λ _. chosen (Fine false code reset_parts Asked s) (λ t. answer t words) (eqb level 2) _ _
       (λ _. stop s.mode refl) (λ _. stays code s words refl tt refl))
@@ -225,13 +225,13 @@ module _ {Asked : Type 0} (s : State) (code : ℕ) where
       words = code ∷ level ∷ []
 
       idle : Parts s → Parts (idle_of s)
-      idle p = drive-set s p Idle 0 Absent tt tt tt
+      idle p = drive_set s p Idle 0 Absent tt tt tt
 
       planned : State
       planned = with_plans (idle_of s) s.stored s.stored
 
       plans : Parts s → Parts planned
-      plans p = plans-set (idle_of s) (idle p) s.stored s.stored (stored_of s p) (stored_of s p) tt
+      plans p = plans_set (idle_of s) (idle p) s.stored s.stored (stored_of s p) (stored_of s p) tt
 
       cleared : State
       cleared = with_counter (with_port planned 0) 0
@@ -242,32 +242,32 @@ module _ {Asked : Type 0} (s : State) (code : ℕ) where
       cold : Fine false code reset_parts Asked s (answer (cold_of s) words)
       cold =
           sets code s words refl tt (cold_of s) (λ _. refl) (λ h. (h.1, h.1))
-          (λ _ p. settings-set cleared (counter-set (with_port planned 0) (port-set planned (plans p) 0) 0) _ (taken_back p))
+          (λ _ p. settings_set cleared (counter_set (with_port planned 0) (port_set planned (plans p) 0) 0) _ (taken_back p))
 
       stop : (m : Mode) → s.mode ≡ m → Fine false code reset_parts Asked s (answer (stop_measure s m) words)
       stop Idle e = stays code s words refl tt refl
       stop Rotate e = stays code s words refl tt refl
-      stop Measure e = sets-drive code s words refl tt Rotate s.running Absent (λ _. refl) (λ _ p. (rw e at p.running, tt, tt))
+      stop Measure e = sets_drive code s words refl tt Rotate s.running Absent (λ _. refl) (λ _ p. (rw e at p.running, tt, tt))
 
-  pub idle-fine : Fine false code drive_parts Asked s (trans_idle s code)
-  idle-fine = sets-drive code s _ refl tt Idle 0 Absent (λ _. refl) (λ _ _. (tt, tt, tt))
+  pub idle_fine : Fine false code drive_parts Asked s (trans_idle s code)
+  idle_fine = sets_drive code s _ refl tt Idle 0 Absent (λ _. refl) (λ _ _. (tt, tt, tt))
 
-  pub rotate-fine : (speed : ℕ) → Fine false code drive_parts Asked s (trans_rotate s code speed)
-  rotate-fine speed =
+  pub rotate_fine : (speed : ℕ) → Fine false code drive_parts Asked s (trans_rotate s code speed)
+  rotate_fine speed =
       chosen (Fine false code drive_parts Asked s) (λ t. answer_status code t) (eqb speed 0) _ _
       (λ _. turn s.speed (λ p. speed_of s.id s.speed s.step.0 p.config))
       (λ _. chosen (Fine false code drive_parts Asked s) (λ t. answer_status code t) (speed_ok speed) _ _ (λ e. turn speed (λ _. holds e))
-      (λ _. sets-drive code s _ refl tt Idle 0 Absent (λ _. refl) (λ _ _. (tt, tt, tt))))
+      (λ _. sets_drive code s _ refl tt Idle 0 Absent (λ _. refl) (λ _ _. (tt, tt, tt))))
     where
       turn : (r : ℕ) → (Parts s → T (speed_ok r)) → Fine false code drive_parts Asked s (answer_status code (with_drive s Rotate r Absent))
-      turn r h = sets-drive code s _ refl tt Rotate r Absent (λ _. refl) (λ _ p. (h p, tt, tt))
+      turn r h = sets_drive code s _ refl tt Rotate r Absent (λ _. refl) (λ _ p. (h p, tt, tt))
 
   -- only the mode: where it fails there was no job to end
-  pub measure-fine : (Asked → s.mode ≡ Idle → ⊥) → Fine false code (part.mode ∷ []) Asked s (trans_measure s code)
-  measure-fine n =
+  pub measure_fine : (Asked → s.mode ≡ Idle → ⊥) → Fine false code (part.mode ∷ []) Asked s (trans_measure s code)
+  measure_fine n =
       chosen (Fine false code (part.mode ∷ []) Asked s) (λ t. answer t ((code ∷ senstat t) ++ (error ∷ []))) (eqb error 0) _ _
-      (λ e. sets-drive code s _ refl tt Measure s.running s.job (λ _. refl) (λ q p. (speed q p, holds e, job_measures s.mode s.job p.job)))
-      (λ e. sets-drive code s _ refl tt Rotate s.running Absent (λ p. none p e) (λ q p. (speed q p, tt, tt)))
+      (λ e. sets_drive code s _ refl tt Measure s.running s.job (λ _. refl) (λ q p. (speed q p, holds e, job_measures s.mode s.job p.job)))
+      (λ e. sets_drive code s _ refl tt Rotate s.running Absent (λ p. none p e) (λ q p. (speed q p, tt, tt)))
     where
       error : ℕ
       error = measure_error s.working s.step.0 s.running

@@ -16,9 +16,9 @@ use Rattle.services.specs.Nav300.{bad_value}
 
 -- `get_mixed_profile`
 module _ (r : Served) (s : State) (code number high low : ℕ) (a : Bool) (ea : a ≡ starts_mixed high low) where
-  pub mixed-stays : not a ≡ true → Gives r (answer s (code ∷ high ∷ low ∷ bad_value ∷ [])) → Gives r (get_mixed_profile s code number high low)
-  mixed-stays q g = rw (said_no ea q) g
+  pub mixed_stays : not a ≡ true → Gives r (answer s (code ∷ high ∷ low ∷ bad_value ∷ [])) → Gives r (get_mixed_profile s code number high low)
+  mixed_stays q g = rw (said_no ea q) g
 
-  pub mixed-starts : not a ≡ false → (j : Job) (t : State) → j ≡ new_job number (Mask.Mixed high low)
+  pub mixed_starts : not a ≡ false → (j : Job) (t : State) → j ≡ new_job number (Mask.Mixed high low)
       → t ≡ with_drive s s.mode s.running j → Gives r (answer t []) → Gives r (get_mixed_profile s code number high low)
-  mixed-starts q j t ej et g = rw (said_yes ea q) (rw (et, ej) at g)
+  mixed_starts q j t ej et g = rw (said_yes ea q) (rw (et, ej) at g)

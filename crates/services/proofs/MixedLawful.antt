@@ -11,13 +11,13 @@ use Rattle.state.specs.declared.Mode.TheVariants.{Measure}
 use Rattle.state.specs.Changes as part
 use Rattle.services.specs.Mixed.{starts_mixed, get_mixed_profile, cancel_mixed_profile}
 use Rattle.services.specs.Nav300.{bad_value}
-use Rattle.services.proofs.Lawful.{Fine, starts-fine, cancelled-fine}
+use Rattle.services.proofs.Lawful.{Fine, starts_fine, cancelled_fine}
 
 module _ {Asked : Type 0} (s : State) (code : ℕ) where
-  pub mixed-profile-fine : (number high low : ℕ) → (Asked → number ≤ 65535) → (Asked → s.mode ≡ Measure)
+  pub mixed_profile_fine : (number high low : ℕ) → (Asked → number ≤ 65535) → (Asked → s.mode ≡ Measure)
       → Fine (starts_mixed high low) code (part.job ∷ []) Asked s (get_mixed_profile s code number high low)
-  mixed-profile-fine number high low =
-      starts-fine s code (starts_mixed high low) number (Mask.Mixed high low) (code ∷ high ∷ low ∷ bad_value ∷ []) refl tt (λ e. holds e)
+  mixed_profile_fine number high low =
+      starts_fine s code (starts_mixed high low) number (Mask.Mixed high low) (code ∷ high ∷ low ∷ bad_value ∷ []) refl tt (λ e. holds e)
 
-  pub cancel-mixed-fine : Fine false code (part.job ∷ []) Asked s (cancel_mixed_profile s code)
-  cancel-mixed-fine = cancelled-fine s code Kind.Mixed (λ _. code ∷ 0 ∷ []) (λ _. refl) (λ _. tt)
+  pub cancel_mixed_fine : Fine false code (part.job ∷ []) Asked s (cancel_mixed_profile s code)
+  cancel_mixed_fine = cancelled_fine s code Kind.Mixed (λ _. code ∷ 0 ∷ []) (λ _. refl) (λ _. tt)

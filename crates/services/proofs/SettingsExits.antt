@@ -13,30 +13,30 @@ use Rattle.services.specs.Nav300.{bad_value, set_rotate_direction, value_said, s
 
 -- `set_rotate_direction`
 module _ (r : Served) (s : State) (code rotation : ℕ) (a : Bool) (ea : a ≡ rotation_ok rotation) where
-  pub rotation-stays : not a ≡ true → Gives r (answer s (code ∷ bad_value ∷ [])) → Gives r (set_rotate_direction s code rotation)
-  rotation-stays q g = rw (said_no ea q) g
+  pub rotation_stays : not a ≡ true → Gives r (answer s (code ∷ bad_value ∷ [])) → Gives r (set_rotate_direction s code rotation)
+  rotation_stays q g = rw (said_no ea q) g
 
-  pub rotation-set : not a ≡ false → (t : State) → t ≡ with_settings s (with_rotation s.settings rotation)
+  pub rotation_set : not a ≡ false → (t : State) → t ≡ with_settings s (with_rotation s.settings rotation)
       → Gives r (answer t (code ∷ rotation ∷ [])) → Gives r (set_rotate_direction s code rotation)
-  rotation-set q t e g = rw (said_yes ea q) (rw e at g)
+  rotation_set q t e g = rw (said_yes ea q) (rw e at g)
 
 -- `value_said`
 module _ (good : Bool) (value : ℕ) where
-  pub said-good : good ≡ true → value ≡ value_said good value
-  said-good e = rw e
+  pub said_good : good ≡ true → value ≡ value_said good value
+  said_good e = rw e
 
-  pub said-bad : good ≡ false → bad_value ≡ value_said good value
-  said-bad e = rw e
+  pub said_bad : good ≡ false → bad_value ≡ value_said good value
+  said_bad e = rw e
 
 -- `set_reflector_config`
 module _ (r : Served) (s : State) (code threshold radius first second : ℕ) (a b : Bool) (ea : a ≡ threshold_ok threshold) (eb : b ≡ radius_ok radius)
     (ef : first ≡ value_said a threshold) (es : second ≡ value_said b radius) where
-  both-good : (a && b) ≡ (threshold_ok threshold && radius_ok radius)
-  both-good = both_are a b _ _ ea eb
+  both_good : (a && b) ≡ (threshold_ok threshold && radius_ok radius)
+  both_good = both_are a b _ _ ea eb
 
-  pub reflector-stays : not (a && b) ≡ true → Gives r (answer s (code ∷ first ∷ second ∷ [])) → Gives r (set_reflector_config s code threshold radius)
-  reflector-stays q g = rw (said_no both-good q) (rw (ef, es, ea, eb) at g)
+  pub reflector_stays : not (a && b) ≡ true → Gives r (answer s (code ∷ first ∷ second ∷ [])) → Gives r (set_reflector_config s code threshold radius)
+  reflector_stays q g = rw (said_no both_good q) (rw (ef, es, ea, eb) at g)
 
-  pub reflector-set : not (a && b) ≡ false → (t : State) → t ≡ with_settings s (with_reflector s.settings (reflector threshold radius))
+  pub reflector_set : not (a && b) ≡ false → (t : State) → t ≡ with_settings s (with_reflector s.settings (reflector threshold radius))
       → Gives r (answer t (code ∷ first ∷ second ∷ [])) → Gives r (set_reflector_config s code threshold radius)
-  reflector-set q t e g = rw (said_yes both-good q) (rw (e, ef, es, ea, eb) at g)
+  reflector_set q t e g = rw (said_yes both_good q) (rw (e, ef, es, ea, eb) at g)

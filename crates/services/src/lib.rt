@@ -1,5 +1,7 @@
 // The services as pure functions: from a state, the response code and the words after the request's code to the next state and a short
 // answer. Nothing is stored before every test has passed, and nothing is written here: whether the answer fits a buffer is decided above.
+#![tactic(auto)]
+
 use state::State;
 
 mod answers;
@@ -28,7 +30,7 @@ pub const LONGEST: usize = 5;
 pub const NO_VALUE: u16 = 0xFFFF;
 
 // The next state, and the answer: its first count words.
-#[derive(Drop)]
+#[derive(Clone, Copy)]
 pub struct Served {
     pub state: State,
     pub words: [u16; LONGEST],

@@ -1,19 +1,21 @@
 // The stand-in as a program: records of requests on standard input, a line for each on standard output. What a record, its answer and its
 // line are is the library's; here is only the way from one block of bytes to the next (rule 7.10).
+#![tactic(auto)]
+
 ghost use Rattle.std.specs.Prelude.{◌≤◌, length};
 
 use libc::{STDIN_FILENO, STDOUT_FILENO};
 use state::State;
 
 // Where the talk stands: the sensor's state, and how many records were answered.
-#[derive(Drop)]
+#[derive(Clone, Copy)]
 struct Talk {
     state: State,
     count: u64,
 }
 
 // What became of a block: where the talk stands, how many of its bytes were taken, and how many of the text were filled.
-#[derive(Drop)]
+#[derive(Clone, Copy)]
 struct Block {
     talk: Talk,
     taken: usize,
@@ -74,7 +76,7 @@ fn read_more(bytes: &mut [u8], have: usize) -> usize
 }
 
 // Where the talk stands, how many bytes are not taken yet, and whether the input has ended.
-#[derive(Drop)]
+#[derive(Clone, Copy)]
 struct Turn {
     talk: Talk,
     have: usize,

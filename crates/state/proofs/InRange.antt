@@ -19,9 +19,9 @@ use Rattle.state.specs.Ranges.{speed_ok, config_ok, drive_ok, is_measure, job_ok
 
 -- `config_ok`
 module _ (id speed step : ℕ) (low : 1 ≤ id) (high : id ≤ 254) (a : Bool) (ea : a ≡ speed_ok speed) where
-  pub no-speed : not a ≡ true → false ≡ config_ok id speed step
+  pub no_speed : not a ≡ true → false ≡ config_ok id speed step
   unfolding config_ok
-  no-speed q = rw (le-leb _ _ low, le-leb _ _ high, said_no ea q)
+  no_speed q = rw (le-leb _ _ low, le-leb _ _ high, said_no ea q)
 
   pub a_step : not a ≡ false → (b : Bool) → b ≡ is_step step → b ≡ config_ok id speed step
   unfolding config_ok
@@ -36,8 +36,8 @@ module _ (mode : Mode) (working : Plan) (step running : ℕ) where
   rotates m a ea = rw (m, and-true) ea
 
   module _ (m : mode ≡ Measure) (a : Bool) (ea : a ≡ speed_ok running) where
-    pub no-running : not a ≡ true → false ≡ drive_ok mode running working step
-    no-running q = rw (m, said_no ea q)
+    pub no_running : not a ≡ true → false ≡ drive_ok mode running working step
+    no_running q = rw (m, said_no ea q)
 
     pub measures : not a ≡ false → (n : ℕ) → n ≡ measure_error working step running
         → eqb n 0 ≡ drive_ok mode running working step
@@ -46,12 +46,12 @@ module _ (mode : Mode) (working : Plan) (step running : ℕ) where
 -- `job_ok`
 module _ (mode : Mode) (job : Job) (a : Bool) (ea : a ≡ is_measure mode) where
   module _ (left : ℕ) (mask : Mask) (sent : ℕ) (j : job ≡ Counted left mask sent) where
-    pub counted-idle : not a ≡ true → false ≡ job_ok mode job
-    counted-idle q = rw (j, said_no ea q)
+    pub counted_idle : not a ≡ true → false ≡ job_ok mode job
+    counted_idle q = rw (j, said_no ea q)
 
     module _ (qa : not a ≡ false) (b : Bool) (eb : b ≡ admitted mask) where
-      pub counted-mask : not b ≡ true → false ≡ job_ok mode job
-      counted-mask q = rw (j, said_yes ea qa, said_no eb q)
+      pub counted_mask : not b ≡ true → false ≡ job_ok mode job
+      counted_mask q = rw (j, said_yes ea qa, said_no eb q)
 
       pub none_left : not b ≡ false → left < 1 → false ≡ job_ok mode job
       none_left q h = rw (j, said_yes ea qa, said_yes eb q, lt-leb _ _ h)
@@ -60,11 +60,11 @@ module _ (mode : Mode) (job : Job) (a : Bool) (ea : a ≡ is_measure mode) where
       some_left q h = rw (j, said_yes ea qa, said_yes eb q, le-leb _ _ h)
 
   module _ (mask : Mask) (sent : ℕ) (j : job ≡ Endless mask sent) where
-    pub endless-idle : not a ≡ true → false ≡ job_ok mode job
-    endless-idle q = rw (j, said_no ea q)
+    pub endless_idle : not a ≡ true → false ≡ job_ok mode job
+    endless_idle q = rw (j, said_no ea q)
 
-    pub endless-mask : not a ≡ false → (b : Bool) → b ≡ admitted mask → b ≡ job_ok mode job
-    endless-mask q b eb = rw (j, said_yes ea q) eb
+    pub endless_mask : not a ≡ false → (b : Bool) → b ≡ admitted mask → b ≡ job_ok mode job
+    endless_mask q b eb = rw (j, said_yes ea q) eb
 
 -- `in_range`
 pub tests_are : (s : State) (a b c d e : Bool) → a ≡ config_ok s.id s.speed s.step.0 → b ≡ plan_in_range s.working

@@ -60,25 +60,25 @@ stored_set s p w t b = let h = p.alone in search (and_both, and_l, and_r, b)
 -- What is asked where some fields are set: the others are in their ranges as before. The tests of fields that stand alone are found among
 -- those of before, so a new one changes no law here.
 module _ (s : State) (p : Parts s) where
-  pub config-set : (id speed step : ℕ) → T (config_ok id speed step) → T (checks_ok s.mode s.working step s.running)
+  pub config_set : (id speed step : ℕ) → T (config_ok id speed step) → T (checks_ok s.mode s.working step s.running)
       → Parts (with_config s id speed step)
-  config-set id speed step a b =
+  config_set id speed step a b =
       record { config = a; working = p.working; running = p.running; checks = b; job = p.job; alone = p.alone }
 
-  pub plans-set : (w t : Plan) → T (plan_in_range w) → T (plan_in_range t) → T (checks_ok s.mode w s.step.0 s.running)
+  pub plans_set : (w t : Plan) → T (plan_in_range w) → T (plan_in_range t) → T (checks_ok s.mode w s.step.0 s.running)
       → Parts (with_plans s w t)
-  plans-set w t a b c =
+  plans_set w t a b c =
       record { config = p.config; working = a; running = p.running; checks = c; job = p.job; alone = stored_set s p w t b }
 
-  pub drive-set : (m : Mode) (r : ℕ) (j : Job) → T (running_ok m r) → T (checks_ok m s.working s.step.0 r) → T (job_ok m j)
+  pub drive_set : (m : Mode) (r : ℕ) (j : Job) → T (running_ok m r) → T (checks_ok m s.working s.step.0 r) → T (job_ok m j)
       → Parts (with_drive s m r j)
-  drive-set m r j a b c = record { config = p.config; working = p.working; running = a; checks = b; job = c; alone = p.alone }
+  drive_set m r j a b c = record { config = p.config; working = p.working; running = a; checks = b; job = c; alone = p.alone }
 
-  pub port-set : (port : ℕ) → Parts (with_port s port)
-  port-set port = with_alone p p.alone
+  pub port_set : (port : ℕ) → Parts (with_port s port)
+  port_set port = with_alone p p.alone
 
-  pub counter-set : (counter : ℕ) → Parts (with_counter s counter)
-  counter-set counter = with_alone p p.alone
+  pub counter_set : (counter : ℕ) → Parts (with_counter s counter)
+  counter_set counter = with_alone p p.alone
 
-  pub settings-set : (n : Settings) → InRanges n → Parts (with_settings s n)
-  settings-set n h = let a = p.alone in with_alone p (search (and_both, and_l, and_r, settings_whole n h))
+  pub settings_set : (n : Settings) → InRanges n → Parts (with_settings s n)
+  settings_set n h = let a = p.alone in with_alone p (search (and_both, and_l, and_r, settings_whole n h))

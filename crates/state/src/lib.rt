@@ -1,4 +1,6 @@
 // The sensor's state: its fields and their ranges, how it is set, and what a call hands back of it.
+#![tactic(auto)]
+
 use layout::Mask;
 use plan::Plan;
 use units::{Angle, Millimetres, Percent};
@@ -17,7 +19,7 @@ pub use ranges::{config_ok, in_range, is_measure, speed_ok};
 pub use setters::{with_config, with_counter, with_drive, with_plans, with_port, with_settings};
 pub use start::fresh;
 
-#[derive(Drop)]
+#[derive(Clone, Copy)]
 pub enum Mode {
     Idle,
     Rotate,
@@ -26,7 +28,7 @@ pub enum Mode {
 
 // A profile job: none; so many left, with its mask and the number sent; or endless, with its mask and the number sent (rule 2.7). The mask
 // says of which kind the profiles are.
-#[derive(Drop)]
+#[derive(Clone, Copy)]
 pub enum Job {
     Absent,
     Counted { left: u16, mask: Mask, sent: u16 },
@@ -34,21 +36,21 @@ pub enum Job {
 }
 
 // By what reflectors are told, and how large they are: a threshold, and a radius, 0 for flat ones (rule 2.10).
-#[derive(Drop)]
+#[derive(Clone, Copy)]
 pub struct Reflector {
     pub threshold: Percent,
     pub radius: Millimetres,
 }
 
 // The settings of the NAV300: the direction of rotation, the working pair of threshold and radius, and the stored one (rule 2.10).
-#[derive(Drop)]
+#[derive(Clone, Copy)]
 pub struct Settings {
     pub rotation: u16,
     pub working: Reflector,
     pub stored: Reflector,
 }
 
-#[derive(Drop)]
+#[derive(Clone, Copy)]
 pub struct State {
     pub id: u16,
     pub speed: u16,
@@ -65,7 +67,7 @@ pub struct State {
 
 // What a call hands back beside the words in the buffer: the next state, the number for no (0 for none) and how many words it wrote (rule
 // 4.17).
-#[derive(Drop)]
+#[derive(Clone, Copy)]
 pub struct Reply {
     pub state: State,
     pub refusal: u16,

@@ -1,5 +1,7 @@
 // A tour of the sensor: a whole input at once, its records answered one by one, each line written as it comes. The stored input
 // goes through every service in every mode and every refusal that a program can meet, and ends in a cut record.
+#![tactic(auto)]
+
 ghost use Rattle.std.specs.Prelude.{◌≤◌, length};
 
 use libc::{STDIN_FILENO, STDOUT_FILENO};

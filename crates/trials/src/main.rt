@@ -1,5 +1,7 @@
 // The trials as a program: cases of every public call on standard input, a line for each on standard output. The calls and the line
 // are the libraries'; here is only the way from a case's words to a call, and from what it hands back to the words of a line.
+#![tactic(auto)]
+
 ghost use Rattle.std.specs.Prelude.{◌<◌, ◌≤◌, length};
 
 use libc::{STDIN_FILENO, STDOUT_FILENO};
@@ -21,7 +23,7 @@ fn write_answer(number: u64, case: &[u16], out: &mut [u16], text: &mut [u8]) {
 }
 
 // What the input has next: whether a whole case, and how many words it is.
-#[derive(Drop)]
+#[derive(Clone, Copy)]
 struct Next {
     whole: bool,
     count: usize,

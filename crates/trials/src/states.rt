@@ -109,7 +109,7 @@ fn put_four(out: &mut [u16], at: usize, a: u16, b: u16, c: u16, d: u16) -> usize
 }
 
 // A mask's kind, high word and low word; a plain one has no high word.
-#[derive(Drop)]
+#[derive(Clone, Copy)]
 struct MaskWords {
     kind: u16,
     high: u16,

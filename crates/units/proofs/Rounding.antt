@@ -21,39 +21,39 @@ module _ (rate k : ℕ) (some : 0 < rate) where
   ms = after_start rate k
 
   -- the rule by half milliseconds: one more, and two make one
-  pub by-halves : ms ≡ (2000 * k / rate + 1) / 2
-  by-halves = by_two rate (2000 * k + rate) ∙ ap (λ (n : ℕ). n / 2) (add-div_right (2000 * k) some)
+  pub by_halves : ms ≡ (2000 * k / rate + 1) / 2
+  by_halves = by_two rate (2000 * k + rate) ∙ ap (λ (n : ℕ). n / 2) (add-div_right (2000 * k) some)
 
   -- cutting off by half milliseconds
-  cut-halves : 1000 * k / rate ≡ 2000 * k / rate / 2
-  cut-halves =
+  cut_halves : 1000 * k / rate ≡ 2000 * k / rate / 2
+  cut_halves =
       sym (mul-div-mul_left {m = 2} (1000 * k) rate (omega arith))
       ∙ ap (λ (n : ℕ). n / (2 * rate)) (omega arith)
       ∙ by_two rate (2000 * k)
 
   -- half a millisecond behind the exact time at the most, and less than that before it
-  not-above : 2 * rate * ms ≤ 2000 * k + rate
-  not-above = mul-div-le (2000 * k + rate) (2 * rate)
+  not_above : 2 * rate * ms ≤ 2000 * k + rate
+  not_above = mul-div-le (2000 * k + rate) (2 * rate)
 
   below : 2000 * k < 2 * rate * ms + rate
   below = omega (arith, lt-mul-div-succ (2000 * k + rate) {b = 2 * rate} (omega arith))
 
   -- a millisecond before it is off by half a one or more, and one behind it by more
   before : (m : ℕ) → m < ms → rate ≤ off_by rate k m
-  before m h = omega (arith, not-above, mul-le-mul_left (2 * rate) h)
+  before m h = omega (arith, not_above, mul-le-mul_left (2 * rate) h)
 
   behind : (m : ℕ) → ms < m → rate < off_by rate k m
   behind m h = omega (arith, below, mul-le-mul_left (2 * rate) h)
 
   -- no millisecond is nearer, and none behind it is as near
   close : (m : ℕ) → (m - ms ≡ 0) ⊎ (0 < m - ms) → (ms - m ≡ 0) ⊎ (0 < ms - m) → off_by rate k ms ≤ off_by rate k m
-  close m (inr h) e = omega (arith, not-above, below, behind m (omega arith))
-  close m (inl h) (inr e) = omega (arith, not-above, below, before m (omega arith))
+  close m (inr h) e = omega (arith, not_above, below, behind m (omega arith))
+  close m (inl h) (inr e) = omega (arith, not_above, below, before m (omega arith))
   close m (inl h) (inl e) = let same : m ≡ ms = omega arith in rw same (omega arith)
 
   last : (m : ℕ) → (m - ms ≡ 0) ⊎ (0 < m - ms) → off_by rate k m ≤ off_by rate k ms → m ≤ ms
   last m (inl h) o = omega arith
-  last m (inr h) o = absurd (omega (arith, not-above, below, behind m (omega arith)))
+  last m (inr h) o = absurd (omega (arith, not_above, below, behind m (omega arith)))
 
 -- a later shot has no earlier time, before the start is added
 rises : (rate j k : ℕ) → 0 < rate → j ≤ k → after_start rate j ≤ after_start rate k
@@ -64,10 +64,10 @@ rises rate j k some h =
 pub times_rounded : TimesRounded
 times_rounded rate some =
     record {
-      half = λ k. omega (arith, not-above rate k some, below rate k some);
+      half = λ k. omega (arith, not_above rate k some, below rate k some);
       nearest = λ k m. close rate k some m (eq-zero-or-pos (m - after_start rate k)) (eq-zero-or-pos (after_start rate k - m));
       later = λ k m. last rate k some m (eq-zero-or-pos (m - after_start rate k));
       never_falls = λ start j k h w. omega (arith, rises rate j k some h);
-      cut_off = λ k. omega (arith, by-halves rate k some, cut-halves rate k some);
-      or_one_more = λ k. omega (arith, by-halves rate k some, cut-halves rate k some);
+      cut_off = λ k. omega (arith, by_halves rate k some, cut_halves rate k some);
+      or_one_more = λ k. omega (arith, by_halves rate k some, cut_halves rate k some);
     }

@@ -1,4 +1,6 @@
 // Angles, distances, times, echoes, percent and millimetres, kept apart: a type each, and what is done with them (rule 1.3).
+#![tactic(auto)]
+
 mod directions;
 mod times;
 
@@ -10,30 +12,30 @@ pub use times::shot_time;
 
 // A direction or an angle step, in sixteenths of a degree.
 #[repr(C)]
-#[derive(Drop)]
+#[derive(Clone, Copy)]
 pub struct Angle(pub u16);
 
 // A distance, in 1/256 metre.
 #[repr(C)]
-#[derive(Drop)]
+#[derive(Clone, Copy)]
 pub struct Distance(pub u16);
 
 // A time, in milliseconds.
 #[repr(C)]
-#[derive(Drop)]
+#[derive(Clone, Copy)]
 pub struct Time(pub u16);
 
 // The strength of an echo.
 #[repr(C)]
-#[derive(Drop)]
+#[derive(Clone, Copy)]
 pub struct Echo(pub u16);
 
 // A share of the way from one strength of echo to another, in percent: the threshold of reflectors, which is no echo.
-#[derive(Drop)]
+#[derive(Clone, Copy)]
 pub struct Percent(pub u16);
 
 // A length in millimetres: the radius of reflectors, which is no distance in 1/256 metre.
-#[derive(Drop)]
+#[derive(Clone, Copy)]
 pub struct Millimetres(pub u16);
 
 // The directions of a revolution; `circle` in the specs.

@@ -24,8 +24,8 @@ stands_there b ws = drop_at (replicate b 0) ws b (length-replicate b 0)
 
 module _ {A F : Type 0} (c : Format A F) (lawful : Lawful c) (b b' : ℕ) (ws : List ℕ) where
   -- what is read at one place was laid out there, so that it is read at the other
-  read-too : {a : A} {n : ℕ} {rest : List ℕ} → c.parse b ws ≡ got a n rest → (a' : A) × (n' : ℕ) × (c.parse b' ws ≡ got a' n' rest)
-  read-too {a} {n} {rest} e =
+  read_too : {a : A} {n : ℕ} {rest : List ℕ} → c.parse b ws ≡ got a n rest → (a' : A) × (n' : ℕ) × (c.parse b' ws ≡ got a' n' rest)
+  read_too {a} {n} {rest} e =
       let W = standing b ws in
       let s : Sound c W b a n rest = subst (SoundOf c W b) (ap (c.parse b) (stands_there b ws) ∙ e) (lawful.sound W b) in
       let laid : drop b' (standing b' ws) ≡ c.put (c.strip W a) ++ rest = stands_there b' ws ∙ sym (stands_there b ws) ∙ s.words in
@@ -38,8 +38,8 @@ any_place {A} c lawful b b' ws = go (c.parse b ws) refl (c.parse b' ws) refl
     go : (g : Got A) → c.parse b ws ≡ g → (g' : Got A) → c.parse b' ws ≡ g' → SameLeft g g'
     go short e short e' = tt
     go short e (got a n rest) e' =
-        let r = read-too c lawful b' b ws e' in
+        let r = read_too c lawful b' b ws e' in
         subst (λ (g : Got A). SameLeft g (got a n rest)) (sym r.2 ∙ e) refl
     go (got a n rest) e g' e' =
-        let r = read-too c lawful b b' ws e in
+        let r = read_too c lawful b b' ws e in
         subst (SameLeft (got a n rest)) (sym r.2 ∙ e') refl

@@ -12,8 +12,8 @@ use Rattle.words.specs.Lists.{some}
 use Rattle.words.specs.Words.{given_if, Shaped}
 use Rattle.words.specs.Parse.{Got, short, got, map_got, word}
 use Rattle.words.specs.Format.{Format, nothing, one, many, chain, optional, join, times, recast}
-use Rattle.words.proofs.Lawful.{Sound, SoundOf, Lawful, nothing_lawful, one_lawful, by_span, many_lawful, recast-lawful}
-use Rattle.words.proofs.Formats.{both, chain-lawful, times-lawful}
+use Rattle.words.proofs.Lawful.{Sound, SoundOf, Lawful, nothing_lawful, one_lawful, by_span, many_lawful, recast_lawful}
+use Rattle.words.proofs.Formats.{both, chain_lawful, times_lawful}
 
 -- words that are laid out up to where they end
 pub record Extended {A F : Type 0} (c : Format A F) (ws : List ℕ) : Type 0 where
@@ -112,21 +112,21 @@ module _ {K A F B G C H : Type 0} (k : Format A F) (key : A → K) (keyF : F →
         words = rw (laid (k.strip W a) t.fields, keys W a, s.words, append_assoc, ← s.rest, t.words);
       }
 
-  both-extend : (W : List ℕ) (b : ℕ) (g : Got A) → SoundOf k W b g → ExtendedOf k (drop b W) g
+  both_extend : (W : List ℕ) (b : ℕ) (g : Got A) → SoundOf k W b g → ExtendedOf k (drop b W) g
       → ExtendedOf m (drop b W) (both g (λ a. (l (key a)).parse) make)
-  both-extend W b short s t = first_short (drop b W) t
-  both-extend W b (got a b₁ ws₁) s t =
+  both_extend W b short s t = first_short (drop b W) t
+  both_extend W b (got a b₁ ws₁) s t =
       rw (← s.rest) (second_short W b a b₁ ws₁ s ((l (key a)).parse b₁ (drop b₁ W)) ((l-extends (key a)).extend W b₁))
 
 pub chain_extends : {K A F B G : Type 0} (k : Format A F) (key : A → K) (keyF : F → K) (l : K → Format B G) → Extends k → ((x : K) → Extends (l x))
     → ((W : List ℕ) (a : A) → keyF (k.strip W a) ≡ key a) → Extends (chain k key keyF l)
 chain_extends k key keyF l h i keys =
     record {
-      lawful = chain-lawful k key keyF l h.lawful (λ x. (i x).lawful) keys;
+      lawful = chain_lawful k key keyF l h.lawful (λ x. (i x).lawful) keys;
       any = (h.any, (i (keyF h.any)).any);
       any_fits = (h.any_fits, (i (keyF h.any)).any_fits);
       extend =
-          λ W b. both-extend k key keyF l (chain k key keyF l) (λ a c. (a, c)) (λ f g. (f, g)) keys (λ f g. refl) (λ f g s t. (s, t)) i W b
+          λ W b. both_extend k key keyF l (chain k key keyF l) (λ a c. (a, c)) (λ f g. (f, g)) keys (λ f g. refl) (λ f g s t. (s, t)) i W b
           (k.parse b (drop b W)) (h.lawful.sound W b) (h.extend W b);
     }
 
@@ -138,15 +138,15 @@ join_extends k l h i = chain_extends k (λ _. tt {0}) (λ _. tt {0}) (λ _. l) h
 
 -- n times
 pub times_extends : {A F : Type 0} (k : Format A F) → Extends k → (n : ℕ) → Extends (times n k)
-times_extends k h zero = record { lawful = times-lawful k h.lawful zero; any = []; any_fits = tt; extend = λ W b. tt }
+times_extends k h zero = record { lawful = times_lawful k h.lawful zero; any = []; any_fits = tt; extend = λ W b. tt }
 times_extends k h (suc n) =
     let fewer = times_extends k h n in
     record {
-      lawful = times-lawful k h.lawful (suc n);
+      lawful = times_lawful k h.lawful (suc n);
       any = h.any ∷ fewer.any;
       any_fits = (h.any_fits, fewer.any_fits);
       extend =
-          λ W b. both-extend k (λ _. tt {0}) (λ _. tt {0}) (λ _. times n k) (times (suc n) k) (λ x xs. x ∷ xs) (λ f fs. f ∷ fs)
+          λ W b. both_extend k (λ _. tt {0}) (λ _. tt {0}) (λ _. times n k) (times (suc n) k) (λ x xs. x ∷ xs) (λ f fs. f ∷ fs)
           (λ W a. refl) (λ f fs. refl)
           (λ f fs s t. (s, t)) (λ _. fewer) W b (k.parse b (drop b W)) (h.lawful.sound W b) (h.extend W b);
     }
@@ -154,25 +154,25 @@ times_extends k h (suc n) =
 -- the same under other types
 module _ {A F B G : Type 0} (to : A → B) (from : B → A) (toF : F → G) (fromF : G → F) (k : Format A F) (k-extends : Extends k)
     (back : (a : A) → from (to a) ≡ a) (thereF : (g : G) → toF (fromF g) ≡ g) (back_f : (f : F) → fromF (toF f) ≡ f) where
-  there-fits : (f : F) → k.ok f → k.ok (fromF (toF f))
-  there-fits f o = rw (back_f f) o
+  there_fits : (f : F) → k.ok f → k.ok (fromF (toF f))
+  there_fits f o = rw (back_f f) o
 
-  recast-extend : (ws : List ℕ) (g : Got A) → ExtendedOf k ws g → ExtendedOf (recast to from toF fromF k) ws (map_got to g)
-  recast-extend ws (got a b' ws') s = tt
-  recast-extend ws short s =
+  recast_extend : (ws : List ℕ) (g : Got A) → ExtendedOf k ws g → ExtendedOf (recast to from toF fromF k) ws (map_got to g)
+  recast_extend ws (got a b' ws') s = tt
+  recast_extend ws short s =
       record {
         fields = toF s.fields;
         more = s.more;
-        fits = there-fits s.fields s.fits;
+        fits = there_fits s.fields s.fits;
         some_more = s.some_more;
         words = s.words ∙ ap k.put (sym (back_f s.fields));
       }
 
-  pub recast-extends : Extends (recast to from toF fromF k)
-  recast-extends =
+  pub recast_extends : Extends (recast to from toF fromF k)
+  recast_extends =
       record {
-        lawful = recast-lawful to from toF fromF k k-extends.lawful back thereF back_f;
+        lawful = recast_lawful to from toF fromF k k-extends.lawful back thereF back_f;
         any = toF k-extends.any;
-        any_fits = there-fits k-extends.any k-extends.any_fits;
-        extend = λ W b. recast-extend (drop b W) (k.parse b (drop b W)) (k-extends.extend W b);
+        any_fits = there_fits k-extends.any k-extends.any_fits;
+        extend = λ W b. recast_extend (drop b W) (k.parse b (drop b W)) (k-extends.extend W b);
       }

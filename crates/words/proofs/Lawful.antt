@@ -147,14 +147,14 @@ many_lawful n =
 
 module _ {A F B G : Type 0} (to : A → B) (from : B → A) (toF : F → G) (fromF : G → F) (k : Format A F) (k-lawful : Lawful k)
     (back : (a : A) → from (to a) ≡ a) (thereF : (g : G) → toF (fromF g) ≡ g) (back_f : (f : F) → fromF (toF f) ≡ f) where
-  recast-sound : (W : List ℕ) (b : ℕ) (g : Got A) → SoundOf k W b g → SoundOf (recast to from toF fromF k) W b (map_got to g)
-  recast-sound W b short s = tt
-  recast-sound W b (got a b' ws') s =
+  recast_sound : (W : List ℕ) (b : ℕ) (g : Got A) → SoundOf k W b g → SoundOf (recast to from toF fromF k) W b (map_got to g)
+  recast_sound W b short s = tt
+  recast_sound W b (got a b' ws') s =
       let q : k.strip W a ≡ fromF (toF (k.strip W (from (to a)))) = sym (back_f (k.strip W (from (to a))) ∙ ap (k.strip W) (back a)) in
       record { rest = s.rest; words = s.words ∙ ap (λ (f : F). k.put f ++ ws') q; fits = subst k.ok q s.fits }
 
-  recast-complete : (W : List ℕ) (b : ℕ) (f : G) (post : List ℕ) → Complete k W b (fromF f) post → Complete (recast to from toF fromF k) W b f post
-  recast-complete W b f post s =
+  recast_complete : (W : List ℕ) (b : ℕ) (f : G) (post : List ℕ) → Complete k W b (fromF f) post → Complete (recast to from toF fromF k) W b f post
+  recast_complete W b f post s =
       record {
         value = to s.value;
         place = s.place;
@@ -163,24 +163,24 @@ module _ {A F B G : Type 0} (to : A → B) (from : B → A) (toF : F → G) (fro
         behind = s.behind;
       }
 
-  recast-kept : (b : ℕ) (ws : List ℕ) (g : Got A) → KeptOf b ws g → KeptOf b ws (map_got to g)
-  recast-kept b ws short s = tt
-  recast-kept b ws (got a b' ws') s = s
+  recast_kept : (b : ℕ) (ws : List ℕ) (g : Got A) → KeptOf b ws g → KeptOf b ws (map_got to g)
+  recast_kept b ws short s = tt
+  recast_kept b ws (got a b' ws') s = s
 
-  recast-within : (n : ℕ) (g : Got A) → InsideOf k n g → InsideOf (recast to from toF fromF k) n (map_got to g)
-  recast-within n short s = tt
-  recast-within n (got a b' ws') s = subst (k.inside n) (sym (back a)) s
+  recast_within : (n : ℕ) (g : Got A) → InsideOf k n g → InsideOf (recast to from toF fromF k) n (map_got to g)
+  recast_within n short s = tt
+  recast_within n (got a b' ws') s = subst (k.inside n) (sym (back a)) s
 
-  recast-located : (W : List ℕ) (b : ℕ) (g : Got A) → StandsOf k W b g → StandsOf (recast to from toF fromF k) W b (map_got to g)
-  recast-located W b short s = tt
-  recast-located W b (got a b' ws') s = subst (k.stands W b) (sym (back a)) s
+  recast_located : (W : List ℕ) (b : ℕ) (g : Got A) → StandsOf k W b g → StandsOf (recast to from toF fromF k) W b (map_got to g)
+  recast_located W b short s = tt
+  recast_located W b (got a b' ws') s = subst (k.stands W b) (sym (back a)) s
 
-  pub recast-lawful : Lawful (recast to from toF fromF k)
-  recast-lawful =
+  pub recast_lawful : Lawful (recast to from toF fromF k)
+  recast_lawful =
       record {
-        sound = λ W b. recast-sound W b (k.parse b (drop b W)) (k-lawful.sound W b);
-        complete = λ W b f post o e. recast-complete W b f post (k-lawful.complete W b (fromF f) post o e);
-        kept = λ b ws. recast-kept b ws (k.parse b ws) (k-lawful.kept b ws);
-        within = λ b ws. recast-within (b + length ws) (k.parse b ws) (k-lawful.within b ws);
-        located = λ W b. recast-located W b (k.parse b (drop b W)) (k-lawful.located W b);
+        sound = λ W b. recast_sound W b (k.parse b (drop b W)) (k-lawful.sound W b);
+        complete = λ W b f post o e. recast_complete W b f post (k-lawful.complete W b (fromF f) post o e);
+        kept = λ b ws. recast_kept b ws (k.parse b ws) (k-lawful.kept b ws);
+        within = λ b ws. recast_within (b + length ws) (k.parse b ws) (k-lawful.within b ws);
+        located = λ W b. recast_located W b (k.parse b (drop b W)) (k-lawful.located W b);
       }

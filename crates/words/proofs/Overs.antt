@@ -29,8 +29,8 @@ over_next ws d w h =
 
 -- the first words of a list: so many as the loop has laid, of those that it lays
 module _ (ws d out : List ℕ) (i n : ℕ) (laid : out ≡ over (take i ws) d) where
-  pub over-more : i < n → n ≤ length ws → n ≤ length d → set out i (get_or ws i 0) ≡ over (take (i + 1) ws) d
-  over-more h k l =
+  pub over_more : i < n → n ≤ length ws → n ≤ length d → set out i (get_or ws i 0) ≡ over (take (i + 1) ws) d
+  over_more h k l =
       let long : length (take i ws) ≡ i = length-take-le i ws (omega arith) in
       let room : length (take i ws) < length d = omega arith in
       rw (laid, add-one, take-suc ws i 0 (omega arith)) (rw long at (over_next (take i ws) d (get_or ws i 0) room))

@@ -34,34 +34,34 @@ module _ {ps d₀ d : List ℕ} {at : ℕ} (w : Wrote ps d₀ d at) where
   room ws h = omega (arith, as_long (omega arith), w.counted)
 
   -- one write more, at a place
-  pub and-put : {ws d' : List ℕ} {r : ℕ} → Put ws d at d' r → Wrote (ps ++ ws) d₀ d' r
+  pub and_put : {ws d' : List ℕ} {r : ℕ} → Put ws d at d' r → Wrote (ps ++ ws) d₀ d' r
   unfolding over
-  and-put {ws} {d'} {r} p =
+  and_put {ws} {d'} {r} p =
       record {
         words = p.words ∙ rw (front, ← drop-drop, rest, drop-drop, append_assoc, length-append) refl;
         counted = p.place ∙ rw (w.counted, length-append);
       }
 
   -- one write more, by a writer that was lent the rest
-  and-wrote : {ws part : List ℕ} {n : ℕ} → Wrote ws (drop at d) part n → Wrote (ps ++ ws) d₀ (take at d ++ part) (at + n)
+  and_wrote : {ws part : List ℕ} {n : ℕ} → Wrote ws (drop at d) part n → Wrote (ps ++ ws) d₀ (take at d ++ part) (at + n)
   unfolding over
-  and-wrote {ws} {part} {n} p =
+  and_wrote {ws} {part} {n} p =
       record {
         words = rw (front, p.words, rest, drop-drop, append_assoc, length-append) refl;
         counted = rw (w.counted, p.counted, length-append);
       }
 
   -- the part of d from at on, as `&mut d[at..]` lends it
-  pub lent-room : length (take (length d - at) (drop at d)) ≡ length d - at
-  lent-room = rw (length-take, length-drop) (omega arith)
+  pub lent_room : length (take (length d - at) (drop at d)) ≡ length d - at
+  lent_room = rw (length-take, length-drop) (omega arith)
 
   -- what is in the buffer when the part is back
-  pub and-lent : {ws part : List ℕ} {n : ℕ} → Wrote ws (take (length d - at) (drop at d)) part n
+  pub and_lent : {ws part : List ℕ} {n : ℕ} → Wrote ws (take (length d - at) (drop at d)) part n
       → Wrote (ps ++ ws) d₀ (take at d ++ (part ++ drop (length d - at) (drop at d))) (at + n)
-  and-lent {ws} {part} {n} p =
+  and_lent {ws} {part} {n} p =
       let all : take (length d - at) (drop at d) ≡ drop at d = take_all (length d - at) (drop at d) (rw length-drop (omega arith)) in
       let none : drop (length d - at) (drop at d) ≡ [] = drop_of_length-le (drop at d) {i = length d - at} (rw length-drop (omega arith)) in
-      rw (none, append-nil part) (and-wrote (rw all at p))
+      rw (none, append-nil part) (and_wrote (rw all at p))
 
 -- one word, or none
 pub put_one : (d : List ℕ) (at w : ℕ) → at < length d → Put (w ∷ []) d at (set d at w) (at + 1)
@@ -78,34 +78,34 @@ module _ {d : List ℕ} {at : ℕ} (inside : at ≤ length d) where
       let e : length (take at d) ≡ at = length-take-le at d inside in
       record { words = rw (e, take-append-drop); counted = sym e }
 
-  as-put : {ws d' : List ℕ} {r : ℕ} → Wrote (take at d ++ ws) d d' r → Put ws d at d' r
+  as_put : {ws d' : List ℕ} {r : ℕ} → Wrote (take at d ++ ws) d d' r → Put ws d at d' r
   unfolding over
-  as-put w =
+  as_put w =
       let e : length (take at d) ≡ at = length-take-le at d inside in
       record { words = w.words ∙ rw (append_assoc, length-append, e) refl; place = w.counted ∙ rw (length-append, e) }
 
   pub put_then : {ws vs d' d'' : List ℕ} {r r' : ℕ} → Put ws d at d' r → Put vs d' r d'' r' → Put (ws ++ vs) d at d'' r'
-  put_then p q = as-put (rw append_assoc at (and-put (and-put at_place p) q))
+  put_then p q = as_put (rw append_assoc at (and_put (and_put at_place p) q))
 
-  pub put-room : {ws d' : List ℕ} {r : ℕ} → Put ws d at d' r
+  pub put_room : {ws d' : List ℕ} {r : ℕ} → Put ws d at d' r
       → (vs : List ℕ) → at + length ws + length vs ≤ length d → r + length vs ≤ length d'
-  put-room {ws} p vs h =
+  put_room {ws} p vs h =
       let e : length (take at d) ≡ at = length-take-le at d inside in
-      room (and-put at_place p) vs (rw (length-append, e) h)
+      room (and_put at_place p) vs (rw (length-append, e) h)
 
   -- a write by a writer that was lent the rest, from a place on
-  pub lent-put : {ws part : List ℕ} {n : ℕ} → Wrote ws (take (length d - at) (drop at d)) part n
+  pub lent_put : {ws part : List ℕ} {n : ℕ} → Wrote ws (take (length d - at) (drop at d)) part n
       → Put ws d at (take at d ++ (part ++ drop (length d - at) (drop at d))) (at + n)
-  lent-put w = as-put (and-lent at_place w)
+  lent_put w = as_put (and_lent at_place w)
 
 -- words that are put in two parts: room for the first, for the second behind it, and what both put
 module _ (d : List ℕ) (at : ℕ) (ws vs : List ℕ) (all : at + length (ws ++ vs) ≤ length d) where
-  pub room-first : at + length ws ≤ length d
-  room-first = let h = rw length-append at all in omega arith
+  pub room_first : at + length ws ≤ length d
+  room_first = let h = rw length-append at all in omega arith
 
   module _ {d' : List ℕ} {r : ℕ} (p : Put ws d at d' r) where
-    pub room-second : r + length vs ≤ length d'
-    room-second = let h = rw length-append at all in put-room (omega arith) p vs (omega arith)
+    pub room_second : r + length vs ≤ length d'
+    room_second = let h = rw length-append at all in put_room (omega arith) p vs (omega arith)
 
     pub put_both : {d'' : List ℕ} {r' : ℕ} → Put vs d' r d'' r' → Put (ws ++ vs) d at d'' r'
     put_both q = let h = rw length-append at all in put_then (omega arith) p q
@@ -113,48 +113,48 @@ module _ (d : List ℕ) (at : ℕ) (ws vs : List ℕ) (all : at + length (ws ++ 
 -- in five parts, one after another
 module _ (d : List ℕ) (at : ℕ) (a b c e f : List ℕ) (all : at + length (a ++ b ++ c ++ e ++ f) ≤ length d) where
   four : at + length (a ++ b ++ c ++ e) ≤ length d
-  four = room-first d at (a ++ b ++ c ++ e) f all
+  four = room_first d at (a ++ b ++ c ++ e) f all
 
   three : at + length (a ++ b ++ c) ≤ length d
-  three = room-first d at (a ++ b ++ c) e four
+  three = room_first d at (a ++ b ++ c) e four
 
   two : at + length (a ++ b) ≤ length d
-  two = room-first d at (a ++ b) c three
+  two = room_first d at (a ++ b) c three
 
-  pub room-of-1 : at + length a ≤ length d
-  room-of-1 = room-first d at a b two
+  pub room_of_1 : at + length a ≤ length d
+  room_of_1 = room_first d at a b two
 
   module _ {d₁ : List ℕ} {r₁ : ℕ} (p : Put a d at d₁ r₁) where
-    pub room-of-2 : r₁ + length b ≤ length d₁
-    room-of-2 = room-second d at a b two p
+    pub room_of_2 : r₁ + length b ≤ length d₁
+    room_of_2 = room_second d at a b two p
 
     module _ {d₂ : List ℕ} {r₂ : ℕ} (q : Put b d₁ r₁ d₂ r₂) where
       put_2 : Put (a ++ b) d at d₂ r₂
       put_2 = put_both d at a b two p q
 
-      pub room-of-3 : r₂ + length c ≤ length d₂
-      room-of-3 = room-second d at (a ++ b) c three put_2
+      pub room_of_3 : r₂ + length c ≤ length d₂
+      room_of_3 = room_second d at (a ++ b) c three put_2
 
       module _ {d₃ : List ℕ} {r₃ : ℕ} (r : Put c d₂ r₂ d₃ r₃) where
         put_3 : Put (a ++ b ++ c) d at d₃ r₃
         put_3 = put_both d at (a ++ b) c three put_2 r
 
-        pub room-of-4 : r₃ + length e ≤ length d₃
-        room-of-4 = room-second d at (a ++ b ++ c) e four put_3
+        pub room_of_4 : r₃ + length e ≤ length d₃
+        room_of_4 = room_second d at (a ++ b ++ c) e four put_3
 
         module _ {d₄ : List ℕ} {r₄ : ℕ} (s : Put e d₃ r₃ d₄ r₄) where
           put_4 : Put (a ++ b ++ c ++ e) d at d₄ r₄
           put_4 = put_both d at (a ++ b ++ c) e four put_3 s
 
-          pub room-of-5 : r₄ + length f ≤ length d₄
-          room-of-5 = room-second d at (a ++ b ++ c ++ e) f all put_4
+          pub room_of_5 : r₄ + length f ≤ length d₄
+          room_of_5 = room_second d at (a ++ b ++ c ++ e) f all put_4
 
-          pub put-5 : {d₅ : List ℕ} {r₅ : ℕ} → Put f d₄ r₄ d₅ r₅ → Put (a ++ b ++ c ++ e ++ f) d at d₅ r₅
-          put-5 t = put_both d at (a ++ b ++ c ++ e) f all put_4 t
+          pub put_5 : {d₅ : List ℕ} {r₅ : ℕ} → Put f d₄ r₄ d₅ r₅ → Put (a ++ b ++ c ++ e ++ f) d at d₅ r₅
+          put_5 t = put_both d at (a ++ b ++ c ++ e) f all put_4 t
 
 -- a put at the start is a write of the front
 pub put_first : {ws d d' : List ℕ} {r : ℕ} → Put ws d 0 d' r → Wrote ws d d' r
-put_first p = and-put (none_yet _) p
+put_first p = and_put (none_yet _) p
 
 -- and ends within the buffer
 pub put_ends : {ws d d' : List ℕ} {r : ℕ} → Put ws d 0 d' r → r ≤ length d'
@@ -202,14 +202,14 @@ turns_none f d at = put_none d at
 
 module _ (f : ℕ → List ℕ) (n : ℕ) {d₀ d : List ℕ} {at i to : ℕ}
     (all : at + length (in_turn f n) ≤ length d₀) (so_far : Put (in_turn f i) d₀ at d to) where
-  pub turn-fits : i < n → to + length (f i) ≤ length d
-  turn-fits h = put-room (omega arith) so_far (f i) (omega (arith, turn_room f i n h))
+  pub turn_fits : i < n → to + length (f i) ≤ length d
+  turn_fits h = put_room (omega arith) so_far (f i) (omega (arith, turn_room f i n h))
 
-  pub turn-put : {d' : List ℕ} {r : ℕ} → Put (f i) d to d' r → Put (in_turn f (i + 1)) d₀ at d' r
-  turn-put p = rw turn_more (put_then (omega arith) so_far p)
+  pub turn_put : {d' : List ℕ} {r : ℕ} → Put (f i) d to d' r → Put (in_turn f (i + 1)) d₀ at d' r
+  turn_put p = rw turn_more (put_then (omega arith) so_far p)
 
-  pub turns-all : i ≤ n → n ≤ i → Put (in_turn f n) d₀ at d to
-  turns-all h k =
+  pub turns_all : i ≤ n → n ≤ i → Put (in_turn f n) d₀ at d to
+  turns_all h k =
       let same : n ≡ i = omega arith in
       rw same so_far
 
@@ -218,10 +218,10 @@ pub list_none : (l d : List ℕ) (at : ℕ) → Put (take 0 l) d at d at
 list_none l d at = put_none d at
 
 module _ (l : List ℕ) (i : ℕ) {d₀ d : List ℕ} {at to : ℕ} (all : at + length l ≤ length d₀) (so_far : Put (take i l) d₀ at d to) where
-  pub list-fits : i < length l → to < length d
-  list-fits h =
+  pub list_fits : i < length l → to < length d
+  list_fits h =
       let n : length (take i l) ≡ i = length-take-le i l (omega arith) in
-      omega (arith, put-room (omega arith) so_far (0 ∷ []) (omega arith))
+      omega (arith, put_room (omega arith) so_far (0 ∷ []) (omega arith))
 
   pub list_put : i < length l → {d' : List ℕ} {r : ℕ} → Put (get_or l i 0 ∷ []) d to d' r → Put (take (i + 1) l) d₀ at d' r
   list_put h p = rw (add-one, take-suc l i 0 h) (put_then (omega arith) so_far p)

@@ -14,17 +14,17 @@ use Rattle.words.specs.Places.{take_at}
 
 -- by the answer of the test whether the word is on
 module _ {t : Bool} (on : Bool) (is : t ≡ on) (ws : List ℕ) (at : ℕ) where
-  pub take-there : t ≡ true → at < length ws → record { word = Given (get_or ws at 0); at = at + 1 } ≡ take_at on ws at
+  pub take_there : t ≡ true → at < length ws → record { word = Given (get_or ws at 0); at = at + 1 } ≡ take_at on ws at
   unfolding take_at
-  take-there e h = rw (← is, e, lt-ltb at (length ws) h)
+  take_there e h = rw (← is, e, lt-ltb at (length ws) h)
 
   pub take_ended : t ≡ true → length ws ≤ at → record { word = Absent; at = length ws + 1 } ≡ take_at on ws at
   unfolding take_at
   take_ended e h = rw (← is, e, le-ltb at (length ws) h)
 
-  pub take-off : t ≡ false → record { word = Absent; at = at } ≡ take_at on ws at
+  pub take_off : t ≡ false → record { word = Absent; at = at } ≡ take_at on ws at
   unfolding take_at
-  take-off e = rw (← is, e)
+  take_off e = rw (← is, e)
 
 -- the place behind a word, and behind n words
 pub take_within : (on : Bool) (ws : List ℕ) (at : ℕ) → at ≤ length ws + 1 → (take_at on ws at).at ≤ length ws + 1

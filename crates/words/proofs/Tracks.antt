@@ -79,23 +79,23 @@ many_tracks n ws base i = record { reads = λ h. many_reads n ws base i h (ltb (
 module _ {K A F B G : Type 0} (k : Format A F) (key : A → K) (keyF : F → K) (l : K → Format B G)
     (ws : List ℕ) (base i : ℕ) (a : A) (j : ℕ) (c : B) (j' : ℕ)
     (s : Tracks k ws base i a j) (t : Tracks (l (key a)) ws base j c j') where
-  chain-reads : (u : Bool) → leb j (length ws) ≡ u
+  chain_reads : (u : Bool) → leb j (length ws) ≡ u
       → both {C = A × B} (if u then got a (base + j) (drop j ws) else short) (λ x. (l (key x)).parse) (λ x y. (x, y)) ≡ out_at ws base (a, c) j'
-  chain-reads true e = ap (map_got (λ y. (a, y))) (t.reads (leb-true j (length ws) e)) ∙ map_out (λ y. (a, y)) ws base c j' (leb j' (length ws))
-  chain-reads false e = sym (past_out ws base (a, c) j' (t.sticks (leb-false j (length ws) e)))
+  chain_reads true e = ap (map_got (λ y. (a, y))) (t.reads (leb-true j (length ws) e)) ∙ map_out (λ y. (a, y)) ws base c j' (leb j' (length ws))
+  chain_reads false e = sym (past_out ws base (a, c) j' (t.sticks (leb-false j (length ws) e)))
 
-  pub chain-tracks : Tracks (chain k key keyF l) ws base i (a, c) j'
-  chain-tracks = record { reads = λ h. rw (s.reads h) (chain-reads (leb j (length ws)) refl); sticks = λ h. t.sticks (s.sticks h) }
+  pub chain_tracks : Tracks (chain k key keyF l) ws base i (a, c) j'
+  chain_tracks = record { reads = λ h. rw (s.reads h) (chain_reads (leb j (length ws)) refl); sticks = λ h. t.sticks (s.sticks h) }
 
 -- the rest goes by the word and the place behind it, whatever they are
 pub optional_tracks : {B G : Type 0} (on : Bool) (l : Word → Format B G) (ws : List ℕ) (base i : ℕ) (c : Word → ℕ → B) (j : Word → ℕ → ℕ)
     → ((w : Word) (i' : ℕ) → Tracks (l w) ws base i' (c w i') (j w i'))
     → Tracks (optional on l) ws base i ((take_at on ws i).word, c (take_at on ws i).word (take_at on ws i).at) (j (take_at on ws i).word (take_at on ws i).at)
-optional_tracks on l ws base i c j t = chain-tracks (one on) (λ w. w) (λ w. w) l ws base i _ _ _ _ (one_tracks on ws base i) (t _ _)
+optional_tracks on l ws base i c j t = chain_tracks (one on) (λ w. w) (λ w. w) l ws base i _ _ _ _ (one_tracks on ws base i) (t _ _)
 
 pub join_tracks : {A F B G : Type 0} (k : Format A F) (l : Format B G) {ws : List ℕ} {base i : ℕ} {a : A} {j : ℕ} {c : B} {j' : ℕ}
     → Tracks k ws base i a j → Tracks l ws base j c j' → Tracks (join k l) ws base i (a, c) j'
-join_tracks k l {ws} {base} {i} {a} {j} {c} {j'} s t = chain-tracks k (λ _. tt {0}) (λ _. tt {0}) (λ _. l) ws base i a j c j' s t
+join_tracks k l {ws} {base} {i} {a} {j} {c} {j'} s t = chain_tracks k (λ _. tt {0}) (λ _. tt {0}) (λ _. l) ws base i a j c j' s t
 
 pub recast_tracks : {A F B G : Type 0} (to : A → B) (from : B → A) (toF : F → G) (fromF : G → F) (k : Format A F)
     {ws : List ℕ} {base i : ℕ} {a : A} {j : ℕ}

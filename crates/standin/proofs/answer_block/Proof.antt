@@ -1,5 +1,5 @@
 use Rattle.std.proofs.Common.{◌≡◌, ◌+◌, ◌-◌, ◌≤◌, length, arith, rules}
-use Rattle.dialogue.proofs.Talking.{taken_rest, said_rest, taken-some}
+use Rattle.dialogue.proofs.Talking.{taken_rest, said_rest, taken_some}
 use Rattle.standin.proofs.answer_block.Statement.{statement}
 use Rattle.standin.proofs.answer_block.Tie as tie
 
@@ -44,7 +44,7 @@ adds_filled c =
 less : tie.Need-loop-smaller invariant-loop decreases-loop
 less c =
     let a = c.before.before.before.before.before.before.before in
-    omega (arith, (within a).taken, taken-some _ _ _ _ _ _ a.answer.ensures c.before.before.before.if1.false)
+    omega (arith, (within a).taken, taken_some _ _ _ _ _ _ a.answer.ensures c.before.before.before.if1.false)
 
 again : tie.Need-loop-preserved invariant-loop decreases-loop
 again c =

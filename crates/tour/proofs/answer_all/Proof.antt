@@ -1,5 +1,5 @@
 use Rattle.std.proofs.Common.{◌+◌, ◌-◌, ◌≤◌, length, arith, rules}
-use Rattle.dialogue.proofs.Talking.{said-part, said-lent, taken_rest, taken-some}
+use Rattle.dialogue.proofs.Talking.{said_part, said_lent, taken_rest, taken_some}
 use Rattle.tour.proofs.answer_all.Statement.{statement}
 use Rattle.tour.proofs.answer_all.Tie as tie
 
@@ -10,7 +10,7 @@ abbrev decreases-loop : tie.decreases-loop
 decreases-loop bytes state₀ number₀ at₀ state number at = length bytes - at
 
 lent : tie.Need-slice-aggregate-write-all invariant-loop decreases-loop
-lent c = said-lent _ _ _ _ _ _ c.before.before.before.answer.ensures
+lent c = said_lent _ _ _ _ _ _ c.before.before.before.answer.ensures
 
 -- what was taken is within the bytes
 within : (c : tie.After-answer invariant-loop decreases-loop)
@@ -25,7 +25,7 @@ adds c = omega (arith, within c.before.before.before.before.before.before.before
 less : tie.Need-loop-smaller invariant-loop decreases-loop
 less c =
     let a = c.before.before.before.before.before.before.before in
-    omega (arith, within a, taken-some _ _ _ _ _ _ a.answer.ensures c.before.before.before.before.before.if1.false)
+    omega (arith, within a, taken_some _ _ _ _ _ _ a.answer.ensures c.before.before.before.before.before.if1.false)
 
 again : tie.Need-loop-preserved invariant-loop decreases-loop
 again c = within c.before.before.before.before.before.before.before
@@ -44,7 +44,7 @@ answer_all_spec =
     (λ c. search rules)
     (λ c κs. search rules)
     (λ c. search rules)
-    (λ c. search (said-part, rules))
+    (λ c. search (said_part, rules))
     lent
     (λ c κs. search rules)
     (λ c κs. search rules)

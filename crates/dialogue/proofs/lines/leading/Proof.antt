@@ -3,7 +3,7 @@ use Prim.Native.Nat.{◌-◌, ◌≤◌}
 use lib.ListN.{length, drop}
 use borrow.Author.Rules.{rules}
 use Rattle.dialogue.specs.Lines.{stripped}
-use Rattle.dialogue.proofs.Decimals.{zero-passed, digit-met, last-met}
+use Rattle.dialogue.proofs.Decimals.{zero_passed, digit_met, last_met}
 use Rattle.dialogue.proofs.lines.leading.Statement.{statement}
 use Rattle.dialogue.proofs.lines.leading.Tie as tie
 
@@ -18,8 +18,8 @@ leading_spec =
     (λ text i₀ i. 19 - i)
     (λ c. search rules)
     (λ c. search rules)
-    (λ c. digit-met _ _ (search rules) (search rules) (search rules) (search rules))
+    (λ c. digit_met _ _ (search rules) (search rules) (search rules) (search rules))
     (λ c. search rules)
     (λ c. search rules)
-    (λ c. search (zero-passed, rules))
-    (λ c. last-met _ _ (search rules) (search rules) (search rules) (search rules)))
+    (λ c. search (zero_passed, rules))
+    (λ c. last_met _ _ (search rules) (search rules) (search rules) (search rules)))

@@ -5,7 +5,7 @@ use borrow.Author.Rules.{rules}
 use Rattle.words.specs.Buffers.{Put}
 use Rattle.words.proofs.Puts.{list_none}
 use Rattle.dialogue.specs.Lines.{decimal}
-use Rattle.dialogue.proofs.Decimals.{digit-fits, digit-put, digits-put}
+use Rattle.dialogue.proofs.Decimals.{digit_fits, digit_put, digits_put}
 use Rattle.dialogue.proofs.lines.put_decimal.Statement.{statement}
 use Rattle.dialogue.proofs.lines.put_decimal.Tie as tie
 
@@ -24,9 +24,9 @@ put_decimal_spec =
     (λ c. search rules)
     (λ c. search rules)
     (λ c. search rules)
-    (λ c κs. search digit-fits)
+    (λ c κs. search digit_fits)
     (λ c. search rules)
     (λ c. search rules)
-    (λ c. search (digit-put, rules))
+    (λ c. search (digit_put, rules))
     (λ c. search rules)
-    (λ c. search digits-put))
+    (λ c. search digits_put))

@@ -3,7 +3,7 @@ use Prim.Native.Nat.{◌+◌, ◌-◌, ◌≤◌}
 use lib.ListN.{length}
 use borrow.Author.Rules.{rules}
 use Rattle.words.specs.Buffers.{Put}
-use Rattle.words.proofs.Puts.{turns_none, turn-put, turns-all}
+use Rattle.words.proofs.Puts.{turns_none, turn_put, turns_all}
 use Rattle.dialogue.specs.Lines.{hexes}
 use Rattle.dialogue.proofs.Parts.{hex_fits}
 use Rattle.dialogue.proofs.lines.put_words.Statement.{statement}
@@ -28,6 +28,6 @@ put_words_spec =
     (λ c κs. search hex_fits)
     (λ c. search rules)
     (λ c. search rules)
-    (λ c. search (turn-put, rules))
+    (λ c. search (turn_put, rules))
     (λ c. search rules)
-    (λ c. search turns-all))
+    (λ c. search turns_all))

@@ -4,7 +4,7 @@ use Prim.Native.Nat.{◌≤◌}
 use lib.ListN.{length, drop}
 use borrow.Author.Rules.{rules}
 use Rattle.dialogue.specs.Lines.{digits}
-use Rattle.dialogue.proofs.Decimals.{digits_start, digits_more, digits-done}
+use Rattle.dialogue.proofs.Decimals.{digits_start, digits_more, digits_done}
 use Rattle.dialogue.proofs.lines.twenty.Statement.{statement}
 use Rattle.dialogue.proofs.lines.twenty.Tie as tie
 
@@ -23,4 +23,4 @@ twenty_spec =
     (λ c. search rules)
     (λ c. search rules)
     (λ c. search (digits_more, rules))
-    (λ c. search digits-done))
+    (λ c. search digits_done))

@@ -5,7 +5,7 @@ use borrow.Author.Rules.{rules}
 use Rattle.words.specs.Buffers.{Put, in_turn}
 use Rattle.words.proofs.Puts.{turns_none}
 use Rattle.dialogue.specs.Records.{record_word}
-use Rattle.dialogue.proofs.Taking.{word-taken, words-taken}
+use Rattle.dialogue.proofs.Taking.{word_taken, words_taken}
 use Rattle.dialogue.proofs.records.take_words.Statement.{statement}
 use Rattle.dialogue.proofs.records.take_words.Tie as tie
 
@@ -31,6 +31,6 @@ take_words_spec =
     (λ c. search rules)
     (λ c. search rules)
     (λ c. search rules)
-    (λ c. search (word-taken, rules))
+    (λ c. search (word_taken, rules))
     (λ c. search rules)
-    (λ c. search words-taken))
+    (λ c. search words_taken))

@@ -1,5 +1,5 @@
 use borrow.Author.Rules.{rules}
-use Rattle.layout.proofs.MixedTests.{plain-admitted, mixed-admitted}
+use Rattle.layout.proofs.MixedTests.{plain_admitted, mixed_admitted}
 use Rattle.layout.proofs.mixed.admitted.Statement.{statement}
 use Rattle.layout.proofs.mixed.admitted.Tie as tie
 
@@ -13,5 +13,5 @@ admitted_spec =
     (λ c. search rules)
     (λ c κs. search rules)
     (λ c κs. search rules)
-    (λ c. search plain-admitted)
-    (λ c. search mixed-admitted))
+    (λ c. search plain_admitted)
+    (λ c. search mixed_admitted))

@@ -1,5 +1,5 @@
 use borrow.Author.Rules.{rules}
-use Rattle.layout.proofs.MixedLengths.{plain-length, mixed-length}
+use Rattle.layout.proofs.MixedLengths.{plain_length, mixed_length_lem}
 use Rattle.layout.proofs.mixed.length_of.Statement.{statement}
 use Rattle.layout.proofs.mixed.length_of.Tie as tie
 
@@ -13,5 +13,5 @@ length_of_spec =
     (λ c. search rules)
     (λ c κs. search rules)
     (λ c κs. search rules)
-    (λ c. search plain-length)
-    (λ c. search mixed-length))
+    (λ c. search plain_length)
+    (λ c. search mixed_length_lem))

@@ -4,7 +4,7 @@ use Prim.Native.Nat.{◌-◌}
 use native.Mathlib.Omega.{arith}
 use borrow.Author.Rules.{rules}
 use Rattle.words.proofs.Arrays.{long}
-use Rattle.plan.proofs.Walk.{at_zero, at-end}
+use Rattle.plan.proofs.Walk.{at_zero, at_end}
 use Rattle.normal.proofs.Joining.{Joining, at_last, skips, keeps}
 use Rattle.normal.proofs.normal.join.Statement.{statement}
 use Rattle.normal.proofs.normal.join.Tie as tie
@@ -32,4 +32,4 @@ join_spec =
     (λ c. search keeps)
     (λ c. omega arith)
     (λ c. search skips)
-    (λ c. search (at_last, at-end)))
+    (λ c. search (at_last, at_end)))

@@ -1,5 +1,5 @@
 use borrow.Author.Rules.{rules}
-use Rattle.normal.proofs.Answers.{no_step, no-sector, no-rise, no-multiple, no-refusal}
+use Rattle.normal.proofs.Answers.{no_step, no_sector, no_rise, no_multiple, no_refusal}
 use Rattle.normal.proofs.normal.plan_refusal.Statement.{statement}
 use Rattle.normal.proofs.normal.plan_refusal.Tie as tie
 
@@ -10,9 +10,9 @@ plan_refusal_spec =
     (λ c κs. search rules)
     (λ c. search no_step)
     (λ c κs. search rules)
-    (λ c. search no-sector)
+    (λ c. search no_sector)
     (λ c κs. search rules)
-    (λ c. search no-rise)
+    (λ c. search no_rise)
     (λ c κs. search rules)
-    (λ c. search no-multiple)
-    (λ c. search no-refusal))
+    (λ c. search no_multiple)
+    (λ c. search no_refusal))

@@ -4,7 +4,7 @@ use native.Mathlib.Omega.{arith}
 use lib.ListN.{length, drop}
 use borrow.Author.Rules.{rules}
 use Rattle.words.proofs.Arrays.{long}
-use Rattle.plan.proofs.Walk.{at_zero, at-end, count-ends, count-more}
+use Rattle.plan.proofs.Walk.{at_zero, at_end, count_ends, count_more}
 use Rattle.plan.specs.Sectors.{active}
 use Rattle.plan.proofs.active.active_count.Statement.{statement}
 use Rattle.plan.proofs.active.active_count.Tie as tie
@@ -21,8 +21,8 @@ active_count_spec =
     (λ c. (search (long, rules), omega arith))
     (λ c. search rules)
     (λ c. search rules)
-    (λ c. search (count-ends, at_zero))
+    (λ c. search (count_ends, at_zero))
     (λ c. search rules)
     (λ c. search rules)
-    (λ c. (search rules, search count-more))
-    (λ c. search (count-ends, at-end)))
+    (λ c. (search rules, search count_more))
+    (λ c. search (count_ends, at_end)))

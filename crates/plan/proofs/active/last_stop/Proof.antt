@@ -3,7 +3,7 @@ use Prim.Native.Nat.{◌-◌}
 use lib.ListN.{length, drop}
 use borrow.Author.Rules.{rules}
 use Rattle.words.proofs.Arrays.{long}
-use Rattle.plan.proofs.Walk.{at_zero, at-end, last-ends, last_more}
+use Rattle.plan.proofs.Walk.{at_zero, at_end, last_ends, last_more}
 use Rattle.plan.specs.Sectors.{active}
 use Rattle.plan.specs.Shots.{last_stop}
 use Rattle.plan.proofs.active.last_stop.Statement.{statement}
@@ -21,8 +21,8 @@ last_stop_spec =
     (λ c. (search (long, rules), refl))
     (λ c. search rules)
     (λ c. search rules)
-    (λ c. search (last-ends, at_zero))
+    (λ c. search (last_ends, at_zero))
     (λ c. search rules)
     (λ c. search rules)
     (λ c. (search rules, search last_more))
-    (λ c. search (last-ends, at-end)))
+    (λ c. search (last_ends, at_end)))

@@ -4,7 +4,7 @@ use lib.ListN.{length, drop}
 use borrow.Author.Rules.{rules}
 use Rattle.words.specs.Lists.{every}
 use Rattle.words.proofs.Arrays.{long}
-use Rattle.plan.proofs.Walk.{at_zero, at-end, all_pass, one-fails, one_passes}
+use Rattle.plan.proofs.Walk.{at_zero, at_end, all_pass, one_fails, one_passes}
 use Rattle.plan.specs.Sectors.{active}
 use Rattle.plan.specs.Validity.{sector_ok}
 use Rattle.plan.proofs.active.sectors_ok.Statement.{statement}
@@ -24,8 +24,8 @@ sectors_ok_spec =
     (λ c. search rules)
     (λ c. search (all_pass, at_zero))
     (λ c κs. search rules)
-    (λ c. search one-fails)
+    (λ c. search one_fails)
     (λ c. search rules)
     (λ c. search rules)
     (λ c. (search rules, search one_passes))
-    (λ c. search (all_pass, at-end)))
+    (λ c. search (all_pass, at_end)))

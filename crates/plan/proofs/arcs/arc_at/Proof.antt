@@ -5,8 +5,8 @@ use lib.ListN.{length, get_or, drop}
 use borrow.Author.Rules.{rules}
 use Rattle.units.specs.Directions.{circle}
 use Rattle.words.proofs.Arrays.{long}
-use Rattle.plan.proofs.Walk.{at_zero, at-end, arc-ends, arc-here, arc-more}
-use Rattle.plan.proofs.ArcSums.{arc_start, shots-more, shots-fit}
+use Rattle.plan.proofs.Walk.{at_zero, at_end, arc_ends, arc_here, arc_more}
+use Rattle.plan.proofs.ArcSums.{arc_start, shots_more, shots_fit}
 use Rattle.plan.specs.Sectors.{active}
 use Rattle.plan.specs.Shots.{arcs_from, no_arc, arcs, arc_at}
 use Rattle.plan.proofs.arcs.arc_at.Statement.{statement}
@@ -31,13 +31,13 @@ arc_at_spec =
     (λ c. search rules)
     (λ c. search rules)
     (λ c κs. search rules)
-    (λ c. search (arc-ends, at_zero))
+    (λ c. search (arc_ends, at_zero))
     (λ c κs. search rules)
-    (λ c. search arc-here)
+    (λ c. search arc_here)
     (λ c κs. search rules)
-    (λ c. record { fits = search shots-fit })
+    (λ c. record { fits = search shots_fit })
     (λ c. search rules)
     (λ c. search rules)
-    (λ c. (search rules, omega arith, search shots-more, search arc-more))
+    (λ c. (search rules, omega arith, search shots_more, search arc_more))
     (λ c κs. search rules)
-    (λ c. search (arc-ends, at-end)))
+    (λ c. search (arc_ends, at_end)))

@@ -5,7 +5,7 @@ use lib.ListN.{drop}
 use borrow.Author.Rules.{rules}
 use Rattle.units.specs.Directions.{circle}
 use Rattle.words.proofs.Arrays.{long}
-use Rattle.plan.proofs.ArcSums.{count_fits, lit-start, lit-ends, lit-more, lit-bound, lit-fits}
+use Rattle.plan.proofs.ArcSums.{count_fits, lit_start, lit_ends, lit_more, lit_bound, lit_fits}
 use Rattle.plan.specs.Sectors.{active_of}
 use Rattle.plan.specs.Shots.{arcs, shots_with}
 use Rattle.plan.specs.Checks.{is_lit, lit_shots}
@@ -23,11 +23,11 @@ lit_shots_spec =
     invariant-loop
     (λ plan step n sum₀ k₀ sum k. n - k)
     (λ c κs. search rules)
-    (λ c. (search (count_fits, long, rules), omega arith, search lit-start))
+    (λ c. (search (count_fits, long, rules), omega arith, search lit_start))
     (λ c κs. search rules)
     (λ c κs. search rules)
-    (λ c. record { fits = search lit-fits })
+    (λ c. record { fits = search lit_fits })
     (λ c. search rules)
     (λ c. search rules)
-    (λ c. (search rules, search lit-bound, search lit-more))
-    (λ c. search lit-ends))
+    (λ c. (search rules, search lit_bound, search lit_more))
+    (λ c. search lit_ends))

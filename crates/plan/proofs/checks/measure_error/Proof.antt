@@ -1,5 +1,5 @@
 use borrow.Author.Rules.{rules}
-use Rattle.plan.proofs.Answers.{error-3, error-4, error-1, error-2, no-error}
+use Rattle.plan.proofs.Answers.{error_3, error_4, error_1, error_2, no_error}
 use Rattle.plan.proofs.checks.measure_error.Statement.{statement}
 use Rattle.plan.proofs.checks.measure_error.Tie as tie
 
@@ -8,13 +8,13 @@ measure_error_spec =
     tie.close
     (tie.spec
     (λ c κs. search rules)
-    (λ c. search error-3)
+    (λ c. search error_3)
     (λ c κs. search rules)
-    (λ c. search error-4)
-    (λ c κs. search rules)
-    (λ c κs. search rules)
-    (λ c. search error-1)
+    (λ c. search error_4)
     (λ c κs. search rules)
     (λ c κs. search rules)
-    (λ c. search error-2)
-    (λ c. search no-error))
+    (λ c. search error_1)
+    (λ c κs. search rules)
+    (λ c κs. search rules)
+    (λ c. search error_2)
+    (λ c. search no_error))

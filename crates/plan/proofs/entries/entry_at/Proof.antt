@@ -1,6 +1,6 @@
 use borrow.Author.Rules.{rules}
 use Rattle.words.proofs.Arrays.{long}
-use Rattle.plan.proofs.Walk.{past-last}
+use Rattle.plan.proofs.Walk.{past_last}
 use Rattle.plan.proofs.entries.entry_at.Statement.{statement}
 use Rattle.plan.proofs.entries.entry_at.Tie as tie
 
@@ -12,4 +12,4 @@ entry_at_spec =
     (λ c. search rules)
     (λ c. search rules)
     (λ c κs. search rules)
-    (λ c. search (past-last, long, rules)))
+    (λ c. search (past_last, long, rules)))

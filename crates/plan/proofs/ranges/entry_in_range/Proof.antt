@@ -1,5 +1,5 @@
 use borrow.Author.Rules.{rules}
-use Rattle.plan.proofs.RangeTests.{off-circle, not-used, used}
+use Rattle.plan.proofs.RangeTests.{off_circle, not_used, used}
 use Rattle.plan.proofs.ranges.entry_in_range.Statement.{statement}
 use Rattle.plan.proofs.ranges.entry_in_range.Tie as tie
 
@@ -8,7 +8,7 @@ entry_in_range_spec =
     tie.close
     (tie.spec
     (λ c κs. search rules)
-    (λ c. search off-circle)
-    (λ c. search not-used)
+    (λ c. search off_circle)
+    (λ c. search not_used)
     (λ c κs. search rules)
     (λ c. search used))

@@ -4,7 +4,7 @@ use lib.ListN.{length, drop}
 use borrow.Author.Rules.{rules}
 use Rattle.words.specs.Lists.{every}
 use Rattle.words.proofs.Arrays.{long}
-use Rattle.plan.proofs.Walk.{entries-end, entry-fails, entry-passes}
+use Rattle.plan.proofs.Walk.{entries_end, entry_fails, entry_passes}
 use Rattle.plan.specs.Sectors.{entry_in_range, plan_in_range}
 use Rattle.plan.proofs.ranges.plan_in_range.Statement.{statement}
 use Rattle.plan.proofs.ranges.plan_in_range.Tie as tie
@@ -23,8 +23,8 @@ plan_in_range_spec =
     (λ c. search rules)
     (λ c. search rules)
     (λ c κs. search rules)
-    (λ c. search entry-fails)
+    (λ c. search entry_fails)
     (λ c. search rules)
     (λ c. search rules)
-    (λ c. (search rules, search entry-passes))
-    (λ c. search entries-end))
+    (λ c. (search rules, search entry_passes))
+    (λ c. search entries_end))

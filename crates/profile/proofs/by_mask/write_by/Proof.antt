@@ -1,7 +1,7 @@
 -- `write_by`: the head, the contour and the end, each by its law.
 use native.Mathlib.Omega.{arith}
 use borrow.Author.Rules.{rules}
-use Rattle.profile.proofs.ByMask.{few-sectors, head-asked, contour-asked, end-asked, by-done}
+use Rattle.profile.proofs.ByMask.{few_sectors, head_asked, contour_asked, end_asked, by_done}
 use Rattle.profile.proofs.by_mask.write_by.Statement.{statement}
 use Rattle.profile.proofs.by_mask.write_by.Tie as tie
 
@@ -18,21 +18,21 @@ write_by_spec =
     (λ c κs. search rules)
     (λ c.
     let l = c.before in
-    let h = few-sectors (start l).requires l.before.before.active-count.ensures l.before.mask-number.ensures in
+    let h = few_sectors (start l).requires l.before.before.active-count.ensures l.before.mask-number.ensures in
     omega arith)
     (λ c κs.
     let l = c.before in
-    head-asked (start l).requires l.before.before.active-count.ensures l.before.mask-number.ensures)
+    head_asked (start l).requires l.before.before.active-count.ensures l.before.mask-number.ensures)
     (λ c κs.
     let h = c.before.before.before in
     let l = h.before.before in
-    contour-asked (start l).requires l.before.before.active-count.ensures l.before.mask-number.ensures h.put-head-by.ensures _
+    contour_asked (start l).requires l.before.before.active-count.ensures l.before.mask-number.ensures h.put-head-by.ensures _
     l.layer-of.ensures)
     (λ c κs.
     let w = c.before.before.before in
     let h = w.before.before.before.before in
     let l = h.before.before in
-    end-asked (start l).requires l.before.before.active-count.ensures l.before.mask-number.ensures h.put-head-by.ensures l.layer-of.ensures
+    end_asked (start l).requires l.before.before.active-count.ensures l.before.mask-number.ensures h.put-head-by.ensures l.layer-of.ensures
     w.write-contour.ensures)
     (λ c. search rules)
     (λ c.
@@ -40,5 +40,5 @@ write_by_spec =
     let w = e.before.before.before.before in
     let h = w.before.before.before.before in
     let l = h.before.before in
-    by-done (start l).requires l.before.before.active-count.ensures l.before.mask-number.ensures h.put-head-by.ensures l.layer-of.ensures
+    by_done (start l).requires l.before.before.active-count.ensures l.before.mask-number.ensures h.put-head-by.ensures l.layer-of.ensures
     w.write-contour.ensures e.put-end-by.ensures))

@@ -1,5 +1,5 @@
 use borrow.Author.Rules.{rules}
-use Rattle.profile.proofs.Reflecting.{second_fits, third-fits, head_put}
+use Rattle.profile.proofs.Reflecting.{second_fits, third_fits, head_put}
 use Rattle.profile.proofs.mixed.put_mixed_head.Statement.{statement}
 use Rattle.profile.proofs.mixed.put_mixed_head.Tie as tie
 
@@ -9,7 +9,7 @@ put_mixed_head_spec =
     (tie.spec
     (λ c. search rules)
     (λ c. search (second_fits, rules))
-    (λ c. search (third-fits, rules))
+    (λ c. search (third_fits, rules))
     (λ c. search rules)
     (λ c. search rules)
     (λ c. search rules)

@@ -1,7 +1,7 @@
 use Prim.Native.Nat.{◌-◌}
 use native.Mathlib.Omega.{arith}
 use borrow.Author.Rules.{rules}
-use Rattle.profile.proofs.Laps.{a_step, one-more-fits, fewer, last-before, next-behind}
+use Rattle.profile.proofs.Laps.{a_step, one_more_fits, fewer, last_before, next_behind}
 use Rattle.profile.proofs.points.left_in_lap.Statement.{statement}
 use Rattle.profile.proofs.points.left_in_lap.Tie as tie
 
@@ -17,7 +17,7 @@ some : tie.Need-returns-2
 some c =
     let start = c.before.before.before.before.before in
     let p = a_step (start.args.left - 1) start.args.step.0 (omega arith) in
-    ((omega arith, fewer _ _ _ start.requires.1 p (omega arith)), (last-before _ _ _ (omega arith), λ less. next-behind _ _ _ p (omega arith)))
+    ((omega arith, fewer _ _ _ start.requires.1 p (omega arith)), (last_before _ _ _ (omega arith), λ less. next_behind _ _ _ p (omega arith)))
 
 pub left_in_lap_spec : {M : Type 1} → statement M
 left_in_lap_spec =
@@ -31,5 +31,5 @@ left_in_lap_spec =
     (λ c. search rules)
     (λ c. search rules)
     no_division_by_0
-    (λ c. record { fits = one-more-fits _ _ (omega arith) })
+    (λ c. record { fits = one_more_fits _ _ (omega arith) })
     some)

@@ -7,8 +7,8 @@ use lib.ListN.{length}
 use Rattle.units.specs.Directions.{circle, steps_past}
 use Rattle.plan.specs.declared.Arc.{Arc}
 use Rattle.profile.specs.Profiles.{scan}
-use Rattle.profile.proofs.Laps.{Lap, lap_begun, in-lap, lap-on, SoFar, none_so_far, carried, one_on, taken-off}
-use Rattle.profile.proofs.Writing.{point-room, points-done}
+use Rattle.profile.proofs.Laps.{Lap, lap_begun, in_lap, lap_on, SoFar, none_so_far, carried, one_on, taken_off}
+use Rattle.profile.proofs.Writing.{point_room, points_done}
 use Rattle.profile.proofs.points.write_points.Statement.{statement}
 use Rattle.profile.proofs.points.write_points.Tie as tie
 
@@ -48,17 +48,17 @@ room c κs =
     let by = laps.before.before.onto-circle.ensures in
     let first = laps.before.steps-past.ensures in
     let s = lap.loop2.invariant.0 _ start.args.arc _ refl by (laps.loop.invariant.1 _ _ refl by first) in
-    let here = carried s (in-lap lap.loop2.invariant.1 test.loop2-test.true) in
-    point-room _ _ _ _ _ _ start.requires s.put (omega (arith, lap.loop2.invariant.1.ahead)) _ here
+    let here = carried s (in_lap lap.loop2.invariant.1 test.loop2-test.true) in
+    point_room _ _ _ _ _ _ start.requires s.put (omega (arith, lap.loop2.invariant.1.ahead)) _ here
 
 lap_again : tie.Need-loop2-preserved invariant-loop2 decreases-loop2 invariant-loop decreases-loop
 lap_again c =
     let put = c.before.before.before.before in
     let test = put.before.before.before.before in
     let lap = test.before in
-    let below = in-lap lap.loop2.invariant.1 test.loop2-test.true in (
+    let below = in_lap lap.loop2.invariant.1 test.loop2-test.true in (
       (λ step a d₀ shot by s. one_on (lap.loop2.invariant.0 step a d₀ shot by s) _ _ shot by below put.put-point.ensures),
-      lap-on lap.loop2.invariant.1 test.loop2-test.true,
+      lap_on lap.loop2.invariant.1 test.loop2-test.true,
       search rules,
     )
 
@@ -67,7 +67,7 @@ again_taken_off c =
     let lap = c.before.before.before.before in
     let laps = lap.before.before.before in (
       omega (arith, lap.loop2.invariant.1.below),
-      (λ step a shot by first. taken-off (lap.loop2.invariant.0 _ _ _ shot by (laps.loop.invariant.1 _ _ shot by first)) (omega arith)),
+      (λ step a shot by first. taken_off (lap.loop2.invariant.0 _ _ _ shot by (laps.loop.invariant.1 _ _ shot by first)) (omega arith)),
       omega arith,
       search rules,
     )
@@ -89,7 +89,7 @@ done c =
     let by = laps.before.before.onto-circle.ensures in
     let first = laps.before.steps-past.ensures in
     let s = laps.loop.invariant.1 _ start.args.arc refl by first in
-    points-done _ _ _ _ _ _ start.requires s.put laps.loop.invariant.2 c.loop-test.false
+    points_done _ _ _ _ _ _ start.requires s.put laps.loop.invariant.2 c.loop-test.false
 
 pub write_points_spec : {M : Type 1} → statement M
 write_points_spec =
@@ -116,7 +116,7 @@ write_points_spec =
     room
     (λ c.
     let test = c.before.before.before.before.before.before.before.before in
-    record { fits = omega (arith, in-lap test.before.loop2.invariant.1 test.loop2-test.true) })
+    record { fits = omega (arith, in_lap test.before.loop2.invariant.1 test.loop2-test.true) })
     (λ c. search rules)
     (λ c. search rules)
     lap_again

@@ -9,7 +9,7 @@ use Rattle.words.proofs.Arrays.{long}
 use Rattle.plan.specs.Sectors.{active_of}
 use Rattle.plan.specs.Shots.{arcs}
 use Rattle.plan.proofs.ArcSums.{count_fits}
-use Rattle.profile.proofs.PointSums.{points-end, points-more, points-bound, points-fit}
+use Rattle.profile.proofs.PointSums.{points_end, points_more, points_bound, points_fit}
 use Rattle.profile.proofs.profiles.plan_points.Statement.{statement}
 use Rattle.profile.proofs.profiles.plan_points.Tie as tie
 
@@ -28,8 +28,8 @@ plan_points_spec =
     (λ c κs. search rules)
     (λ c. (search (count_fits, long, rules), omega arith, omega arith))
     (λ c κs. search rules)
-    (λ c. record { fits = search points-fit })
+    (λ c. record { fits = search points_fit })
     (λ c. search rules)
     (λ c. search rules)
-    (λ c. (search rules, search points-bound, search points-more))
-    (λ c. search points-end))
+    (λ c. (search rules, search points_bound, search points_more))
+    (λ c. search points_end))

@@ -1,5 +1,5 @@
 use borrow.Author.Rules.{rules}
-use Rattle.words.proofs.Puts.{room-first, room-second, put_both}
+use Rattle.words.proofs.Puts.{room_first, room_second, put_both}
 use Rattle.profile.proofs.profiles.put_front.Statement.{statement}
 use Rattle.profile.proofs.profiles.put_front.Tie as tie
 
@@ -7,8 +7,8 @@ pub put_front_spec : {M : Type 1} → statement M
 put_front_spec =
     tie.close
     (tie.spec
-    (λ c κs. search (room-first, room-second, put_both))
-    (λ c κs. search (room-first, room-second, put_both))
-    (λ c κs. search (room-first, room-second, put_both))
+    (λ c κs. search (room_first, room_second, put_both))
+    (λ c κs. search (room_first, room_second, put_both))
+    (λ c κs. search (room_first, room_second, put_both))
     (λ c. search rules)
-    (λ c. search (room-first, room-second, put_both)))
+    (λ c. search (room_first, room_second, put_both)))

@@ -1,7 +1,7 @@
 -- `write_contour`: what is asked and the numbers that go with it, and then each part by its law.
 use borrow.Author.Rules.{rules}
 use Rattle.profile.specs.Profiles.{scan}
-use Rattle.profile.proofs.WholeProfile.{ContourBegun, front-room, sectors-asked, status-room, contour-done}
+use Rattle.profile.proofs.WholeProfile.{ContourBegun, front_room, sectors_asked, status_room, contour_done}
 use Rattle.profile.proofs.profiles.write_contour.Statement.{statement}
 use Rattle.profile.proofs.profiles.write_contour.Tie as tie
 
@@ -34,17 +34,17 @@ write_contour_spec =
     (λ c κs. search rules)
     (λ c κs. search rules)
     (λ c κs. search rules)
-    (λ c κs. front-room (begun c.before))
+    (λ c κs. front_room (begun c.before))
     (λ c κs.
     let f = c.before.before.before in
-    sectors-asked (begun (mode f)) f.put_front.ensures)
+    sectors_asked (begun (mode f)) f.put_front.ensures)
     (λ c κs.
     let w = c.before.before.before in
     let f = front w in
-    status-room (begun (mode f)) f.put_front.ensures w.write-sectors.ensures)
+    status_room (begun (mode f)) f.put_front.ensures w.write-sectors.ensures)
     (λ c. search rules)
     (λ c.
     let p = c.before.before in
     let w = p.before.before.before.before in
     let f = front w in
-    contour-done (begun (mode f)) f.put_front.ensures w.write-sectors.ensures p.put-status.ensures))
+    contour_done (begun (mode f)) f.put_front.ensures w.write-sectors.ensures p.put-status.ensures))

@@ -1,5 +1,5 @@
 use borrow.Author.Rules.{rules}
-use Rattle.profile.proofs.Selecting.{selected-room, selected-put, selected-none}
+use Rattle.profile.proofs.Selecting.{selected_room, selected_put, selected_none}
 use Rattle.profile.proofs.puts.put_selected.Statement.{statement}
 use Rattle.profile.proofs.puts.put_selected.Tie as tie
 
@@ -9,8 +9,8 @@ put_selected_spec =
     (tie.spec
     (λ c κs. search rules)
     (λ c. search rules)
-    (λ c. search selected-room)
+    (λ c. search selected_room)
     (λ c. search rules)
     (λ c. search rules)
-    (λ c. search selected-put)
-    (λ c. search selected-none))
+    (λ c. search selected_put)
+    (λ c. search selected_none))

@@ -1,5 +1,5 @@
 use borrow.Author.Rules.{rules}
-use Rattle.words.proofs.Puts.{room-first, room-second, put_both}
+use Rattle.words.proofs.Puts.{room_first, room_second, put_both}
 use Rattle.profile.proofs.reflectors.put_reflector_part.Statement.{statement}
 use Rattle.profile.proofs.reflectors.put_reflector_part.Tie as tie
 
@@ -8,7 +8,7 @@ put_reflector_part_spec =
     tie.close
     (tie.spec
     (λ c. search rules)
-    (λ c κs. search (room-first, room-second, put_both))
-    (λ c κs. search (room-first, room-second, put_both))
+    (λ c κs. search (room_first, room_second, put_both))
+    (λ c κs. search (room_first, room_second, put_both))
     (λ c. search rules)
-    (λ c. search (room-first, room-second, put_both)))
+    (λ c. search (room_first, room_second, put_both)))

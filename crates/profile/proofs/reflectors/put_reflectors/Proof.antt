@@ -6,7 +6,7 @@ use lib.ListN.{length}
 use Rattle.words.specs.Buffers.{in_turn, Put}
 use Rattle.words.proofs.Puts.{turns_none}
 use Rattle.profile.specs.Mixed.{reflectors_given}
-use Rattle.profile.proofs.Reflecting.{one_of, one-fits, one-there, one_more, all-put}
+use Rattle.profile.proofs.Reflecting.{one_of, one_fits, one_there, one_more, all_put}
 use Rattle.profile.proofs.reflectors.put_reflectors.Statement.{statement}
 use Rattle.profile.proofs.reflectors.put_reflectors.Tie as tie
 
@@ -30,13 +30,13 @@ put_reflectors_spec =
     (λ c. (turns_none _ _ _, search rules, search rules, search rules))
     (λ c.
     let l = c.before.before in
-    let h = one-there _ _ _ _ (start l).requires _ _ _ _ l.loop.invariant.0 l.loop.invariant.3 c.before.loop-test.true in
+    let h = one_there _ _ _ _ (start l).requires _ _ _ _ l.loop.invariant.0 l.loop.invariant.3 c.before.loop-test.true in
     search rules)
     (λ c κs.
     let l = c.before.before in
     let t = c.before.loop-test.true in (
-      one-fits _ _ _ _ (start l).requires _ _ _ _ l.loop.invariant.0 l.loop.invariant.3 t,
-      one-there _ _ _ _ (start l).requires _ _ _ _ l.loop.invariant.0 l.loop.invariant.3 t,
+      one_fits _ _ _ _ (start l).requires _ _ _ _ l.loop.invariant.0 l.loop.invariant.3 t,
+      one_there _ _ _ _ (start l).requires _ _ _ _ l.loop.invariant.0 l.loop.invariant.3 t,
     ))
     (λ c. search rules)
     (λ c. search rules)
@@ -51,4 +51,4 @@ put_reflectors_spec =
     (λ c. search rules)
     (λ c.
     let l = c.before in
-    all-put _ _ _ _ (start l).requires _ _ _ _ l.loop.invariant.0 l.loop.invariant.3 l.loop.invariant.1 c.loop-test.false))
+    all_put _ _ _ _ (start l).requires _ _ _ _ l.loop.invariant.0 l.loop.invariant.3 l.loop.invariant.1 c.loop-test.false))

@@ -1,5 +1,5 @@
 use borrow.Author.Rules.{rules}
-use Rattle.profile.proofs.Turning.{no_job, endless-goes, job-ends, job-goes, some_left, can-rise, rises}
+use Rattle.profile.proofs.Turning.{no_job, endless_goes, job_ends, job_goes, some_left, can_rise, rises}
 use Rattle.profile.proofs.revolutions.job_after.Statement.{statement}
 use Rattle.profile.proofs.revolutions.job_after.Tie as tie
 
@@ -9,11 +9,11 @@ job_after_spec =
     (tie.spec
     (λ c. search rules)
     (λ c. search rules)
-    (λ c. search job-ends)
+    (λ c. search job_ends)
     (λ c. search some_left)
-    (λ c. record { fits = search (can-rise, rises) })
+    (λ c. record { fits = search (can_rise, rises) })
     (λ c. search rules)
     (λ c κs. search rules)
     (λ c. search no_job)
-    (λ c. search job-goes)
-    (λ c. search endless-goes))
+    (λ c. search job_goes)
+    (λ c. search endless_goes))

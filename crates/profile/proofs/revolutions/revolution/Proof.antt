@@ -6,7 +6,7 @@ use borrow.Author.Rules.{rules}
 use Rattle.words.proofs.Arrays.{long}
 use Rattle.profile.specs.Profiles.{scan_with}
 use Rattle.profile.specs.Asked.{SendAsked}
-use Rattle.profile.proofs.Sending.{send-turn, refuses, accepted, no-profile, with-profile}
+use Rattle.profile.proofs.Sending.{send_turn, refuses, accepted, no_profile, with_profile}
 use Rattle.profile.proofs.revolutions.revolution.Statement.{statement}
 use Rattle.profile.proofs.revolutions.revolution.Tie as tie
 
@@ -29,13 +29,13 @@ revolution_spec =
     (λ c κs. search rules)
     (λ c. refuses _ _ _ _ _ _ c.before.revolution-refusal.ensures c.if1.true)
     (λ c κs. search rules)
-    (λ c κs. send-turn (taken c.before.before 0))
+    (λ c κs. send_turn (taken c.before.before 0))
     (λ c.
     let e = c.before.before.before in
-    no-profile _ _ _ _ _ _ e.before.revolution-refusal.ensures e.if1.false _ c.before.before.is-job.ensures c.before.if2.true
+    no_profile _ _ _ _ _ _ e.before.revolution-refusal.ensures e.if1.false _ c.before.before.is-job.ensures c.before.if2.true
     c.turn.ensures)
     (λ c κs. search rules)
-    (λ c κs. send-turn (taken c.before.before.before 0))
+    (λ c κs. send_turn (taken c.before.before.before 0))
     (λ c κs. taken c.before.before.before.before.before _)
     (λ c. search rules)
-    (λ c. search with-profile))
+    (λ c. search with_profile))

@@ -1,5 +1,5 @@
 use borrow.Author.Rules.{rules}
-use Rattle.profile.proofs.Turning.{none-sent, one-more-sent, risen-sent, can-rise, rises, stays}
+use Rattle.profile.proofs.Turning.{none_sent, one_more_sent, risen_sent, can_rise, rises, stays}
 use Rattle.profile.proofs.revolutions.sent_after.Statement.{statement}
 use Rattle.profile.proofs.revolutions.sent_after.Tie as tie
 
@@ -9,9 +9,9 @@ sent_after_spec =
     (tie.spec
     (λ c. search rules)
     (λ c. search rules)
-    (λ c. record { fits = search (can-rise, rises, stays) })
+    (λ c. record { fits = search (can_rise, rises, stays) })
     (λ c. search rules)
     (λ c κs. search rules)
-    (λ c. search none-sent)
-    (λ c. search one-more-sent)
-    (λ c. search risen-sent))
+    (λ c. search none_sent)
+    (λ c. search one_more_sent)
+    (λ c. search risen_sent))

@@ -3,7 +3,7 @@ use borrow.Author.Rules.{rules}
 use native.Mathlib.Omega.{arith}
 use Rattle.words.proofs.Puts.{put_ends}
 use Rattle.profile.specs.Profiles.{scan}
-use Rattle.profile.proofs.Writing.{SectorBegun, opening-room, points-asked, behind-points, closing-room, sector-done}
+use Rattle.profile.proofs.Writing.{SectorBegun, opening_room, points_asked, behind_points, closing_room, sector_done}
 use Rattle.profile.proofs.sectors.write_sector.Statement.{statement}
 use Rattle.profile.proofs.sectors.write_sector.Tie as tie
 
@@ -31,28 +31,28 @@ write_sector_spec =
     (λ c. search rules)
     (λ c. search rules)
     (λ c κs. search rules)
-    (λ c κs. opening-room (begun c.before))
+    (λ c κs. opening_room (begun c.before))
     (λ c. let h = put_ends c.before.before.put-opening.ensures in omega arith)
     (λ c. let h = put_ends c.before.before.put-opening.ensures in omega arith)
     (λ c. let h = put_ends c.before.before.put-opening.ensures in omega arith)
     (λ c. search rules)
-    (λ c κs. let o = c.before.before.before in points-asked (begun (times o)) o.put-opening.ensures)
+    (λ c κs. let o = c.before.before.before in points_asked (begun (times o)) o.put-opening.ensures)
     (λ c.
     let w = c.before.before.before in
     let o = w.before.before.before.before in
     let t = o.before.before in
     let s = t.before.before.before.before.before.before.before.before in
     let h =
-    behind-points (record { asked = s.requires; first = t.before.before.shot-time.ensures; last = t.shot-time2.ensures })
+    behind_points (record { asked = s.requires; first = t.before.before.shot-time.ensures; last = t.shot-time2.ensures })
     o.put-opening.ensures w.write-points.ensures in
     omega arith)
     (λ c κs.
     let w = c.before.before.before in
     let o = opening w in
-    closing-room (begun (times o)) o.put-opening.ensures w.write-points.ensures)
+    closing_room (begun (times o)) o.put-opening.ensures w.write-points.ensures)
     (λ c. search rules)
     (λ c.
     let p = c.before.before in
     let w = p.before.before.before.before in
     let o = opening w in
-    sector-done (begun (times o)) o.put-opening.ensures w.write-points.ensures p.put-closing.ensures))
+    sector_done (begun (times o)) o.put-opening.ensures w.write-points.ensures p.put-closing.ensures))

@@ -7,7 +7,7 @@ use Rattle.words.specs.Buffers.{in_turn, Put}
 use Rattle.words.proofs.Puts.{turns_none}
 use Rattle.plan.proofs.ArcSums.{count_fits}
 use Rattle.profile.specs.Profiles.{scan}
-use Rattle.profile.proofs.SectorTurns.{sector_words, behind-sectors, sector-asked, sector_fits, sector-more, sectors-done}
+use Rattle.profile.proofs.SectorTurns.{sector_words, behind_sectors, sector_asked, sector_fits, sector_more, sectors_done}
 use Rattle.profile.proofs.sectors.write_sectors.Statement.{statement}
 use Rattle.profile.proofs.sectors.write_sectors.Tie as tie
 
@@ -39,22 +39,22 @@ write_sectors_spec =
     (λ c κs. search rules)
     (λ c.
     let n = count c.before in
-    let h = behind-sectors (start n).pre n.active-count.ensures c.before.before.loop.invariant.0 c.before.loop-test.true in
+    let h = behind_sectors (start n).pre n.active-count.ensures c.before.before.loop.invariant.0 c.before.loop-test.true in
     omega arith)
     (λ c.
     let n = count c.before in
-    let h = behind-sectors (start n).pre n.active-count.ensures c.before.before.loop.invariant.0 c.before.loop-test.true in
+    let h = behind_sectors (start n).pre n.active-count.ensures c.before.before.loop.invariant.0 c.before.loop-test.true in
     omega arith)
     (λ c.
     let n = count c.before in
-    let h = behind-sectors (start n).pre n.active-count.ensures c.before.before.loop.invariant.0 c.before.loop-test.true in
+    let h = behind_sectors (start n).pre n.active-count.ensures c.before.before.loop.invariant.0 c.before.loop-test.true in
     omega arith)
     (λ c. search rules)
     (λ c. search rules)
     (λ c κs.
     let t = c.before.before in
     let n = count t in
-    sector-asked (start n).pre n.active-count.ensures t.before.loop.invariant.0 t.loop-test.true c.before.arc-at.ensures)
+    sector_asked (start n).pre n.active-count.ensures t.before.loop.invariant.0 t.loop-test.true c.before.arc-at.ensures)
     (λ c.
     let w = c.before.before in
     let t = w.before.before.before in
@@ -69,7 +69,7 @@ write_sectors_spec =
     let w = c.before.before in
     let t = w.before.before.before in
     let n = count t in (
-      sector-more (start n).pre n.active-count.ensures t.before.loop.invariant.0 t.loop-test.true w.before.before.arc-at.ensures
+      sector_more (start n).pre n.active-count.ensures t.before.loop.invariant.0 t.loop-test.true w.before.before.arc-at.ensures
           w.write-sector.ensures,
       search rules,
       search rules,
@@ -78,4 +78,4 @@ write_sectors_spec =
     (λ c. search rules)
     (λ c.
     let n = c.before.before in
-    sectors-done (start n).requires n.active-count.ensures c.before.loop.invariant.0 c.before.loop.invariant.1 c.loop-test.false))
+    sectors_done (start n).requires n.active-count.ensures c.before.loop.invariant.0 c.before.loop.invariant.1 c.loop-test.false))

@@ -1,6 +1,6 @@
 -- `read`: each way out by its law.
 use borrow.Author.Rules.{rules}
-use Rattle.reader.proofs.Readouts.{refused-head, read_whole}
+use Rattle.reader.proofs.Readouts.{refused_head, read_whole}
 use Rattle.reader.proofs.body.read.Statement.{statement}
 use Rattle.reader.proofs.body.read.Tie as tie
 
@@ -10,6 +10,6 @@ read_spec =
     (tie.spec
     (λ c κs. search rules)
     (λ c κs. search rules)
-    (λ c. search refused-head)
+    (λ c. search refused_head)
     (λ c κs. search rules)
     (λ c. search read_whole))

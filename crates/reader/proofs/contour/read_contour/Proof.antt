@@ -3,7 +3,7 @@ use native.Mathlib.Omega.{arith}
 use borrow.Author.Rules.{rules}
 use Rattle.words.proofs.Takes.{took_within}
 use Rattle.reader.proofs.Bodies.{BodyWalk}
-use Rattle.reader.proofs.Ends.{some-begun, contour-read}
+use Rattle.reader.proofs.Ends.{some_begun, contour_read}
 use Rattle.reader.proofs.contour.read_contour.Statement.{statement}
 use Rattle.reader.proofs.contour.read_contour.Tie as tie
 
@@ -43,5 +43,5 @@ read_contour_spec =
     ))
     (λ c κs. search rules)
     (λ c κs. search rules)
-    (λ c κs. some-begun _ _ _ _ (start c).requires.0 (walk c) (start c).requires.1)
-    (λ c. contour-read _ _ _ _ (start c.before.before).requires.0 (walk c.before.before) c.before.part-missing.ensures))
+    (λ c κs. some_begun _ _ _ _ (start c).requires.0 (walk c) (start c).requires.1)
+    (λ c. contour_read _ _ _ _ (start c.before.before).requires.0 (walk c.before.before) c.before.part-missing.ensures))

@@ -4,13 +4,13 @@ use lib.ListN.{length}
 use borrow.Author.Rules.{rules}
 use Rattle.words.proofs.Tests.{said_no, said_yes}
 use Rattle.layout.specs.Mixed.{kind_numbers}
-use Rattle.reader.proofs.Heads.{empty, another, too_few, bad-mask, bad-layers, bad-sectors, no_number, passed}
+use Rattle.reader.proofs.Heads.{empty, another, too_few, bad_mask, bad_layers, bad_sectors, no_number, passed}
 use Rattle.reader.proofs.Heads.{long_enough}
 use Rattle.reader.proofs.head.head_refusal.Statement.{statement}
 use Rattle.reader.proofs.head.head_refusal.Tie as tie
 
 -- whichever test a way out comes from
-ruleset ways = (empty, another, too_few, bad-mask, bad-layers, bad-sectors, no_number, passed, said_no, said_yes)
+ruleset ways = (empty, another, too_few, bad_mask, bad_layers, bad_sectors, no_number, passed, said_no, said_yes)
 
 -- behind the third test: the words that depend on no bit are there
 enough : (c : tie.Else3)

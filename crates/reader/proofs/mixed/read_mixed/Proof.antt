@@ -1,6 +1,6 @@
 -- `read_mixed`: each way out by its law.
 use borrow.Author.Rules.{rules}
-use Rattle.reader.proofs.MixedReadouts.{refused-mixed-head, read-mixed-whole}
+use Rattle.reader.proofs.MixedReadouts.{refused_mixed_head, read_mixed_whole}
 use Rattle.reader.proofs.mixed.read_mixed.Statement.{statement}
 use Rattle.reader.proofs.mixed.read_mixed.Tie as tie
 
@@ -10,6 +10,6 @@ read_mixed_spec =
     (tie.spec
     (λ c κs. search rules)
     (λ c κs. search rules)
-    (λ c. search refused-mixed-head)
+    (λ c. search refused_mixed_head)
     (λ c κs. search rules)
-    (λ c. search read-mixed-whole))
+    (λ c. search read_mixed_whole))

@@ -4,7 +4,7 @@ use Prim.Native.Nat.{◌+◌, ◌*◌, ◌≤◌}
 use native.Mathlib.Omega.{arith}
 use lib.ListN.{length}
 use borrow.Author.Rules.{rules}
-use Rattle.reader.proofs.ReflectorPlaces.{reflectors-inside, reflectors-lent}
+use Rattle.reader.proofs.ReflectorPlaces.{reflectors_inside, reflectors_lent}
 use Rattle.reader.proofs.reflectors.all_reflectors.Statement.{statement}
 use Rattle.reader.proofs.reflectors.all_reflectors.Tie as tie
 
@@ -12,7 +12,7 @@ use Rattle.reader.proofs.reflectors.all_reflectors.Tie as tie
 inside : (c : tie.After-struct-known)
     → let r = c.before.before.read_mixed.result in
     r.start + c.before.number_of.result * r.width ≤ length c.before.before.before.before.args.words.now
-inside c = reflectors-inside _ _ c.before.before.read_mixed.ensures _ c.before.number_of.ensures
+inside c = reflectors_inside _ _ c.before.before.read_mixed.ensures _ c.before.number_of.ensures
 
 pub all_reflectors_spec : {M : Type 1} → statement M
 all_reflectors_spec =
@@ -29,4 +29,4 @@ all_reflectors_spec =
     (λ c. omega (arith, inside c))
     (λ c.
     let t = c.before.before in
-    reflectors-lent _ _ t.before.read_mixed.ensures _ t.number_of.ensures _ refl refl))
+    reflectors_lent _ _ t.before.read_mixed.ensures _ t.number_of.ensures _ refl refl))

@@ -4,7 +4,7 @@ use Prim.Native.Nat.{◌+◌, ◌*◌, ◌≤◌}
 use native.Mathlib.Omega.{arith}
 use lib.ListN.{length}
 use borrow.Author.Rules.{rules}
-use Rattle.reader.proofs.ReflectorPlaces.{reflector-inside, reflector-lent, no-reflector-lent}
+use Rattle.reader.proofs.ReflectorPlaces.{reflector_inside, reflector_lent, no_reflector_lent}
 use Rattle.reader.proofs.reflectors.reflector.Statement.{statement}
 use Rattle.reader.proofs.reflectors.reflector.Tie as tie
 
@@ -13,7 +13,7 @@ inside : (c : tie.After-struct-known)
     → let r = c.before.before.before.read_mixed.result in
     let a = c.before.before.before.before.before.args in
     r.start + a.place * r.width + r.width ≤ length a.words.now
-inside c = reflector-inside _ _ c.before.before.before.read_mixed.ensures _ c.before.before.number_of.ensures _ c.before.if1.true
+inside c = reflector_inside _ _ c.before.before.before.read_mixed.ensures _ c.before.before.number_of.ensures _ c.before.if1.true
 
 pub reflector_spec : {M : Type 1} → statement M
 reflector_spec =
@@ -34,7 +34,7 @@ reflector_spec =
     (λ c. search rules)
     (λ c.
     let t = c.before.before.before.before in
-    reflector-lent _ _ t.before.before.read_mixed.ensures _ t.before.number_of.ensures _ _ t.if1.true refl refl (omega arith))
+    reflector_lent _ _ t.before.before.read_mixed.ensures _ t.before.number_of.ensures _ _ t.if1.true refl refl (omega arith))
     (λ c.
     let t = c.before in
-    no-reflector-lent _ _ t.before.before.read_mixed.ensures _ t.before.number_of.ensures _ _ t.if1.false refl refl))
+    no_reflector_lent _ _ t.before.before.read_mixed.ensures _ t.before.number_of.ensures _ _ t.if1.false refl refl))

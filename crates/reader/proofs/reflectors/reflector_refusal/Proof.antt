@@ -1,6 +1,6 @@
 -- `reflector_refusal`: each way out by its law.
 use borrow.Author.Rules.{rules}
-use Rattle.reader.proofs.ReflectorPlaces.{reflector_refused, has-reflector, past-reflectors}
+use Rattle.reader.proofs.ReflectorPlaces.{reflector_refused, has_reflector, past_reflectors}
 use Rattle.reader.proofs.reflectors.reflector_refusal.Statement.{statement}
 use Rattle.reader.proofs.reflectors.reflector_refusal.Tie as tie
 
@@ -12,5 +12,5 @@ reflector_refusal_spec =
     (λ c. search reflector_refused)
     (λ c κs. search rules)
     (λ c. search rules)
-    (λ c. search has-reflector)
-    (λ c. search past-reflectors))
+    (λ c. search has_reflector)
+    (λ c. search past_reflectors))

@@ -1,7 +1,7 @@
 -- `read_sector`: the words taken are a walk of the sector, and each way out is by its law.
 use native.Mathlib.Omega.{arith}
 use borrow.Author.Rules.{rules}
-use Rattle.reader.proofs.SectorPlaces.{Walk, sector-cut, sector-whole, start_within}
+use Rattle.reader.proofs.SectorPlaces.{Walk, sector_cut, sector_whole, start_within}
 use Rattle.reader.proofs.sector.read_sector.Statement.{statement}
 use Rattle.reader.proofs.sector.read_sector.Tie as tie
 
@@ -39,7 +39,7 @@ walk t =
     }
 
 whole : tie.Need-returns-2
-whole c = sector-whole _ _ _ (walk c.before.before.before.before) c.before.before.if1.false
+whole c = sector_whole _ _ _ (walk c.before.before.before.before) c.before.before.if1.false
 
 pub read_sector_spec : {M : Type 1} → statement M
 read_sector_spec =
@@ -57,7 +57,7 @@ read_sector_spec =
     (λ c κs. search rules)
     (λ c κs. search rules)
     (λ c κs. search rules)
-    (λ c. sector-cut _ _ _ (walk c.before.before) c.if1.true)
+    (λ c. sector_cut _ _ _ (walk c.before.before) c.if1.true)
     (λ c. omega (arith, start_within (walk c.before.before.before), (start c.before.before.before).requires))
     (λ c. omega (arith, (start c.before.before.before.before).requires))
     whole)

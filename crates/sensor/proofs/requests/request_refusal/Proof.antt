@@ -1,5 +1,5 @@
 use borrow.Author.Rules.{rules}
-use Rattle.sensor.proofs.Refusals.{out_of_range, no_words, by-service}
+use Rattle.sensor.proofs.Refusals.{out_of_range, no_words, by_service}
 use Rattle.sensor.proofs.requests.request_refusal.Statement.{statement}
 use Rattle.sensor.proofs.requests.request_refusal.Tie as tie
 
@@ -12,4 +12,4 @@ request_refusal_spec =
     (λ c. search no_words)
     (λ c. search rules)
     (λ c κs. search rules)
-    (λ c. search by-service))
+    (λ c. search by_service))

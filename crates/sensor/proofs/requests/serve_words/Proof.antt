@@ -1,6 +1,6 @@
 use native.Mathlib.Nat.{ne_of_lt}
 use borrow.Author.Rules.{rules}
-use Rattle.sensor.proofs.Answering.{miscount-said, words-served}
+use Rattle.sensor.proofs.Answering.{miscount_said, words_served}
 use Rattle.sensor.proofs.WrongCounts.{listed_short}
 use Rattle.sensor.proofs.requests.serve_words.Statement.{statement}
 use Rattle.sensor.proofs.requests.serve_words.Tie as tie
@@ -14,10 +14,10 @@ serve_words_spec =
     (λ c κs. search rules)
     (λ c κs. search rules)
     (λ c κs. search (listed_short, rules))
-    (λ c. search (miscount-said, ne_of_lt))
+    (λ c. search (miscount_said, ne_of_lt))
     (λ c κs. search rules)
     (λ c κs. search rules)
     (λ c κs. search rules)
     (λ c κs. search rules)
     (λ c κs. search rules)
-    (λ c. search words-served))
+    (λ c. search words_served))

@@ -1,5 +1,5 @@
 use borrow.Author.Rules.{rules}
-use Rattle.sensor.proofs.Refusals.{not_listed, right-count, refused-count, said-count}
+use Rattle.sensor.proofs.Refusals.{not_listed, right_count, refused_count, said_count}
 use Rattle.sensor.proofs.requests.service_refusal.Statement.{statement}
 use Rattle.sensor.proofs.requests.service_refusal.Tie as tie
 
@@ -10,7 +10,7 @@ service_refusal_spec =
     (λ c κs. search rules)
     (λ c κs. search rules)
     (λ c. search not_listed)
-    (λ c. search right-count)
+    (λ c. search right_count)
     (λ c κs. search rules)
-    (λ c. search refused-count)
-    (λ c. search said-count))
+    (λ c. search refused_count)
+    (λ c. search said_count))

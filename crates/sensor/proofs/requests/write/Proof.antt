@@ -3,7 +3,7 @@ use Prim.Native.Nat.{◌-◌, ◌≤◌}
 use lib.ListN.{length, take}
 use borrow.Author.Rules.{rules}
 use Rattle.words.specs.Buffers.{over}
-use Rattle.words.proofs.Overs.{over_start, over-more, over_done}
+use Rattle.words.proofs.Overs.{over_start, over_more, over_done}
 use Rattle.sensor.proofs.requests.write.Statement.{statement}
 use Rattle.sensor.proofs.requests.write.Tie as tie
 
@@ -24,6 +24,6 @@ write_spec =
     (λ c. search rules)
     (λ c. search rules)
     (λ c. search rules)
-    (λ c. search (over-more, rules))
+    (λ c. search (over_more, rules))
     (λ c. search rules)
     (λ c. search over_done))

@@ -1,5 +1,5 @@
 use borrow.Author.Rules.{rules}
-use Rattle.services.proofs.Exits.{status-is}
+use Rattle.services.proofs.Exits.{status_is}
 use Rattle.services.proofs.answers.answer_status.Statement.{statement}
 use Rattle.services.proofs.answers.answer_status.Tie as tie
 
@@ -9,4 +9,4 @@ answer_status_spec =
     (tie.spec
     (λ c κs. search rules)
     (λ c κs. search rules)
-    (λ c. search status-is))
+    (λ c. search status_is))

@@ -1,5 +1,5 @@
 use borrow.Author.Rules.{rules}
-use Rattle.services.proofs.Exits.{status-and}
+use Rattle.services.proofs.Exits.{status_and}
 use Rattle.services.proofs.answers.answer_status_and.Statement.{statement}
 use Rattle.services.proofs.answers.answer_status_and.Tie as tie
 
@@ -9,4 +9,4 @@ answer_status_and_spec =
     (tie.spec
     (λ c κs. search rules)
     (λ c κs. search rules)
-    (λ c. search status-and))
+    (λ c. search status_and))

@@ -1,5 +1,5 @@
 use borrow.Author.Rules.{rules}
-use Rattle.services.proofs.Exits.{config-stays, config-set}
+use Rattle.services.proofs.Exits.{config_stays, config_set}
 use Rattle.services.proofs.configuration.set_config.Statement.{statement}
 use Rattle.services.proofs.configuration.set_config.Tie as tie
 
@@ -9,7 +9,7 @@ set_config_spec =
     (tie.spec
     (λ c κs. search rules)
     (λ c κs. search rules)
-    (λ c. search config-stays)
+    (λ c. search config_stays)
     (λ c κs. search rules)
     (λ c κs. search rules)
-    (λ c. search config-set))
+    (λ c. search config_set))

@@ -1,5 +1,5 @@
 use borrow.Author.Rules.{rules}
-use Rattle.services.proofs.Exits.{entry-copied, entry_set}
+use Rattle.services.proofs.Exits.{entry_copied, entry_set}
 use Rattle.services.proofs.configuration.set_function.Statement.{statement}
 use Rattle.services.proofs.configuration.set_function.Tie as tie
 
@@ -14,7 +14,7 @@ set_function_spec =
     (λ c κs. search rules)
     (λ c κs. search rules)
     (λ c κs. search rules)
-    (λ c. search entry-copied)
+    (λ c. search entry_copied)
     (λ c κs. search rules)
     (λ c κs. search rules)
     (λ c. search entry_set))

@@ -1,5 +1,5 @@
 use borrow.Author.Rules.{rules}
-use Rattle.services.proofs.Exits.{answers-status}
+use Rattle.services.proofs.Exits.{answers_status}
 use Rattle.services.proofs.measurement.cancel_profile.Statement.{statement}
 use Rattle.services.proofs.measurement.cancel_profile.Tie as tie
 
@@ -9,4 +9,4 @@ cancel_profile_spec =
     (tie.spec
     (λ c κs. search rules)
     (λ c κs. search rules)
-    (λ c. search answers-status))
+    (λ c. search answers_status))

@@ -1,5 +1,5 @@
 use borrow.Author.Rules.{rules}
-use Rattle.services.proofs.Exits.{job-ends, job-goes-on}
+use Rattle.services.proofs.Exits.{job_ends, job_goes_on}
 use Rattle.services.proofs.measurement.cancelled.Statement.{statement}
 use Rattle.services.proofs.measurement.cancelled.Tie as tie
 
@@ -9,5 +9,5 @@ cancelled_spec =
     (tie.spec
     (λ c κs. search rules)
     (λ c κs. search rules)
-    (λ c. search job-ends)
-    (λ c. search job-goes-on))
+    (λ c. search job_ends)
+    (λ c. search job_goes_on))

@@ -1,5 +1,5 @@
 use borrow.Author.Rules.{rules}
-use Rattle.services.proofs.Exits.{job-stays, job-starts}
+use Rattle.services.proofs.Exits.{job_stays, job_starts}
 use Rattle.services.proofs.measurement.get_profile.Statement.{statement}
 use Rattle.services.proofs.measurement.get_profile.Tie as tie
 
@@ -8,8 +8,8 @@ get_profile_spec =
     tie.close
     (tie.spec
     (λ c κs. search rules)
-    (λ c. search job-stays)
+    (λ c. search job_stays)
     (λ c κs. search rules)
     (λ c κs. search rules)
     (λ c κs. search rules)
-    (λ c. search job-starts))
+    (λ c. search job_starts))

@@ -1,5 +1,5 @@
 use borrow.Author.Rules.{rules}
-use Rattle.services.proofs.Exits.{counted-kind, endless-kind}
+use Rattle.services.proofs.Exits.{counted_kind, endless_kind}
 use Rattle.services.proofs.measurement.has_kind.Statement.{statement}
 use Rattle.services.proofs.measurement.has_kind.Tie as tie
 
@@ -13,5 +13,5 @@ has_kind_spec =
     (λ c. search rules)
     (λ c κs. search rules)
     (λ c. search rules)
-    (λ c. search counted-kind)
-    (λ c. search endless-kind))
+    (λ c. search counted_kind)
+    (λ c. search endless_kind))

@@ -1,5 +1,5 @@
 use borrow.Author.Rules.{rules}
-use Rattle.services.proofs.MixedExits.{mixed-stays, mixed-starts}
+use Rattle.services.proofs.MixedExits.{mixed_stays, mixed_starts}
 use Rattle.services.proofs.mixed.get_mixed_profile.Statement.{statement}
 use Rattle.services.proofs.mixed.get_mixed_profile.Tie as tie
 
@@ -9,8 +9,8 @@ get_mixed_profile_spec =
     (tie.spec
     (λ c κs. search rules)
     (λ c κs. search rules)
-    (λ c. search mixed-stays)
+    (λ c. search mixed_stays)
     (λ c κs. search rules)
     (λ c κs. search rules)
     (λ c κs. search rules)
-    (λ c. search mixed-starts))
+    (λ c. search mixed_starts))

@@ -1,5 +1,5 @@
 use borrow.Author.Rules.{rules}
-use Rattle.services.proofs.SettingsExits.{reflector-stays, reflector-set}
+use Rattle.services.proofs.SettingsExits.{reflector_stays, reflector_set}
 use Rattle.services.proofs.nav300.set_reflector_config.Statement.{statement}
 use Rattle.services.proofs.nav300.set_reflector_config.Tie as tie
 
@@ -12,7 +12,7 @@ set_reflector_config_spec =
     (λ c κs. search rules)
     (λ c κs. search rules)
     (λ c κs. search rules)
-    (λ c. search reflector-stays)
+    (λ c. search reflector_stays)
     (λ c κs. search rules)
     (λ c κs. search rules)
-    (λ c. search reflector-set))
+    (λ c. search reflector_set))

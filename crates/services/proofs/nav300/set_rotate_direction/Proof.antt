@@ -1,5 +1,5 @@
 use borrow.Author.Rules.{rules}
-use Rattle.services.proofs.SettingsExits.{rotation-stays, rotation-set}
+use Rattle.services.proofs.SettingsExits.{rotation_stays, rotation_set}
 use Rattle.services.proofs.nav300.set_rotate_direction.Statement.{statement}
 use Rattle.services.proofs.nav300.set_rotate_direction.Tie as tie
 
@@ -9,7 +9,7 @@ set_rotate_direction_spec =
     (tie.spec
     (λ c κs. search rules)
     (λ c κs. search rules)
-    (λ c. search rotation-stays)
+    (λ c. search rotation_stays)
     (λ c κs. search rules)
     (λ c κs. search rules)
-    (λ c. search rotation-set))
+    (λ c. search rotation_set))

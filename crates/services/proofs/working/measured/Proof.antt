@@ -1,5 +1,5 @@
 use borrow.Author.Rules.{rules}
-use Rattle.services.proofs.Exits.{measure-fails, measure-starts}
+use Rattle.services.proofs.Exits.{measure_fails, measure_starts}
 use Rattle.services.proofs.working.measured.Statement.{statement}
 use Rattle.services.proofs.working.measured.Tie as tie
 
@@ -8,6 +8,6 @@ measured_spec =
     tie.close
     (tie.spec
     (λ c κs. search rules)
-    (λ c. search measure-fails)
+    (λ c. search measure_fails)
     (λ c κs. search rules)
-    (λ c. search measure-starts))
+    (λ c. search measure_starts))

@@ -1,6 +1,6 @@
 use borrow.Author.Rules.{rules}
 use Rattle.words.proofs.Tests.{picks}
-use Rattle.services.proofs.Exits.{stands-still, turns}
+use Rattle.services.proofs.Exits.{stands_still, turns}
 use Rattle.services.proofs.working.rotate.Statement.{statement}
 use Rattle.services.proofs.working.rotate.Tie as tie
 
@@ -12,6 +12,6 @@ rotate_spec =
     (λ c. search picks)
     (λ c κs. search rules)
     (λ c κs. search rules)
-    (λ c. search stands-still)
+    (λ c. search stands_still)
     (λ c κs. search rules)
     (λ c. search turns))

@@ -1,5 +1,5 @@
 use borrow.Author.Rules.{rules}
-use Rattle.services.proofs.Exits.{idle-stays, rotate-stays, measure_ends}
+use Rattle.services.proofs.Exits.{idle_stays, rotate_stays, measure_ends}
 use Rattle.services.proofs.working.stop_measure.Statement.{statement}
 use Rattle.services.proofs.working.stop_measure.Tie as tie
 
@@ -11,6 +11,6 @@ stop_measure_spec =
     (λ c. search rules)
     (λ c. search rules)
     (λ c κs. search rules)
-    (λ c. search idle-stays)
-    (λ c. search rotate-stays)
+    (λ c. search idle_stays)
+    (λ c. search rotate_stays)
     (λ c. search measure_ends))

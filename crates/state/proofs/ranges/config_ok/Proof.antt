@@ -1,7 +1,7 @@
 use borrow.Author.Rules.{rules}
 use Rattle.words.proofs.Tests.{picks}
 use Rattle.state.specs.Ranges.{config_ok}
-use Rattle.state.proofs.InRange.{no-speed, a_step}
+use Rattle.state.proofs.InRange.{no_speed, a_step}
 use Rattle.state.proofs.ranges.config_ok.Statement.{statement}
 use Rattle.state.proofs.ranges.config_ok.Tie as tie
 
@@ -13,6 +13,6 @@ config_ok_spec =
     (λ c. search picks)
     (λ c. search picks)
     (λ c κs. search rules)
-    (λ c. search no-speed)
+    (λ c. search no_speed)
     (λ c κs. search rules)
     (λ c. search a_step))

@@ -1,5 +1,5 @@
 use borrow.Author.Rules.{rules}
-use Rattle.state.proofs.InRange.{stands, rotates, no-running, measures}
+use Rattle.state.proofs.InRange.{stands, rotates, no_running, measures}
 use Rattle.state.proofs.ranges.drive_ok.Statement.{statement}
 use Rattle.state.proofs.ranges.drive_ok.Tie as tie
 
@@ -12,7 +12,7 @@ drive_ok_spec =
     (λ c κs. search rules)
     (λ c. search rules)
     (λ c κs. search rules)
-    (λ c. search no-running)
+    (λ c. search no_running)
     (λ c κs. search rules)
     (λ c. search stands)
     (λ c. search rotates)

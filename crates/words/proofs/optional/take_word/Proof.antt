@@ -1,6 +1,6 @@
 -- `take_word`: each way out by its law.
 use borrow.Author.Rules.{rules}
-use Rattle.words.proofs.Takes.{take-there, take_ended, take-off}
+use Rattle.words.proofs.Takes.{take_there, take_ended, take_off}
 use Rattle.words.proofs.optional.take_word.Statement.{statement}
 use Rattle.words.proofs.optional.take_word.Tie as tie
 
@@ -12,7 +12,7 @@ take_word_spec =
     (λ c. search rules)
     (λ c. search rules)
     (λ c. search rules)
-    (λ c. search take-there)
+    (λ c. search take_there)
     (λ c. search rules)
     (λ c. search take_ended)
-    (λ c. search take-off))
+    (λ c. search take_off))
