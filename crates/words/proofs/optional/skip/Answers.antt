@@ -3,13 +3,13 @@ use Rattle.words.specs.Places.{skip_at}
 use Rattle.words.proofs.Tests.{picks}
 use Rattle.words.proofs.optional.skip.Goals as goal
 
-pub returns_then_words_at : goal.returns_then_words_at
+pub returns-then-words-at : goal.returns-then-words-at
 unfolding skip_at
-returns_then_words_at c = search picks
+returns-then-words-at c = search picks
 
-pub returns_then_words_at_2 : goal.returns_then_words_at_2
+pub returns-then-words-at-2 : goal.returns-then-words-at-2
 unfolding skip_at
-returns_then_words_at_2 c = search picks
+returns-then-words-at-2 c = search picks
 
 pub returns : goal.returns
 unfolding skip_at

@@ -1,0 +1,12 @@
+use mathlib.Core.Path.{◌≡◌}
+use Prim.Native.Nat.{◌-◌}
+use lib.ListN.{length, drop}
+use Rattle.plan.specs.Sectors.{active}
+use Rattle.plan.specs.Shots.{last_stop}
+use Rattle.plan.proofs.active.last_stop.Given as goal
+
+abbrev pub invariant-loop-i : goal.invariant-loop-i
+invariant-loop-i l = (length l.sectors ≡ 8) × (last_stop l.last.0 (active (drop l.i l.sectors)) ≡ last_stop 0 (active l.sectors))
+
+abbrev pub decreases-loop-i : goal.decreases-loop-i
+decreases-loop-i l = 8 - l.i
