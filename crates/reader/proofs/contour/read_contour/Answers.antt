@@ -41,10 +41,10 @@ walk ws first mask count is_sent is_counter is_layer is_found is_high is_low =
 
 pub read_sectors-found-requires : goal.read_sectors-found-requires
 read_sectors-found-requires c = (
-      took_within _ _ _ _ c.take_word-layer.ensures
-          (took_within _ _ _ _ c.take_word-counter.ensures (took_within _ _ _ _ c.take_word-sent.ensures (omega arith))),
-      c.requires.2,
-    )
+  took_within _ _ _ _ c.take_word-layer.ensures
+      (took_within _ _ _ _ c.take_word-counter.ensures (took_within _ _ _ _ c.take_word-sent.ensures (omega arith))),
+  c.requires.2,
+)
 
 pub part_missing-part-requires : goal.part_missing-part-requires
 part_missing-part-requires c =

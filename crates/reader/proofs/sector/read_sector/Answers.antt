@@ -65,9 +65,9 @@ overflow_add-result c =
     omega (
       arith,
       start_within
-      (walk c.args.mask c.args.rest.now
-    c.take_word-number.ensures c.take_word-step.ensures c.take_word-points.ensures c.take_word-tstart.ensures c.take_word-startdir.ensures
-    c.number_of.ensures c.point_width.ensures c.product-len.ensures c.skip-behind.ensures c.take_word-tend.ensures c.take_word-enddir.ensures),
+          (walk c.args.mask c.args.rest.now
+          c.take_word-number.ensures c.take_word-step.ensures c.take_word-points.ensures c.take_word-tstart.ensures c.take_word-startdir.ensures
+          c.number_of.ensures c.point_width.ensures c.product-len.ensures c.skip-behind.ensures c.take_word-tend.ensures c.take_word-enddir.ensures),
       c.requires,
     )
 

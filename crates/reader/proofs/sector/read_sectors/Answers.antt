@@ -1,7 +1,5 @@
 -- `read_sectors`: the loop keeps `SoFar`, and each turn and way out is by its law.
-use Prim.Native.Nat.{◌-◌}
 use native.Mathlib.Omega.{arith}
-use borrow.Author.Rules.{rules}
 use Rattle.reader.proofs.Loops.{starts, past_end, all_read, cut_off, turns}
 use Rattle.reader.proofs.sector.read_sectors.Goals as goal
 
