@@ -6,12 +6,8 @@ use mathlib.Core.Bool.{Bool, true, false, not, ◌&&◌}
 use mathlib.Core.List.{List, []}
 use native.Mathlib.Omega.{arith}
 use lib.Dec.{T, eqb, ltb}
-<<<<<<< HEAD
-use borrow.Author.Tests.{eq-eqb, ne_eqb, lt-ltb, le-ltb, ltb-true, ltb-false}
-use Rattle.std.specs.Prelude.{if◌then◌else◌, if◌then◌else◌}
-=======
 use borrow.Author.Tests.{eq-eqb, ne_eqb, lt-ltb, le-ltb, ltb-true}
->>>>>>> 9bcac7f863188ec26f02d6ab73f0272a0ae0ef70
+use Rattle.std.specs.Prelude.{if◌then◌else◌}
 use Rattle.words.specs.Lists.{Each}
 use Rattle.words.specs.Numbers.{No, first_of}
 use Rattle.words.proofs.Each.{each_map}
