@@ -5,7 +5,6 @@ use Rattle.std.specs.Borrow.{Bor}
 use Rattle.units.specs.declared.Angle.{Angle}
 use Rattle.units.specs.declared.Time.{Time}
 use Rattle.plan.specs.declared.Plan.{Plan}
-use Rattle.normal.specs.declared.Normalised.{Normalised}
 use Rattle.normal.specs.NormalForm.{NormalPlanSays}
 use Rattle.state.specs.declared.State.{State}
 use Rattle.state.specs.declared.Reply.{Reply}
@@ -18,10 +17,8 @@ use Rattle.sensor.specs.Requests.{RequestSays}
 use Rattle.profile.specs.Profiles.{Scan}
 use Rattle.profile.specs.Revolutions.{RevolutionSays}
 use Rattle.flat.specs.Sent.{ProfileSays, MixedSays}
-use Rattle.reader.specs.declared.Reading.{Reading}
 use Rattle.reader.specs.Readings.{ReadSays}
 use Rattle.reader.specs.Stretches.{StretchRefusalSays, StretchSays}
-use Rattle.reader.specs.declared.MixedReading.{MixedReading}
 use Rattle.reader.specs.Mixed.{ReadMixedSays}
 use Rattle.reader.specs.MixedStretches.{MixedStretchRefusalSays, MixedStretchSays, ReflectorRefusalSays, ReflectorSays, ReflectorsSays}
 use Rattle.dialogue.specs.declared.Record.{Record}

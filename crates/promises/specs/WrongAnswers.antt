@@ -4,7 +4,6 @@ use Rattle.std.specs.Prelude.{◌≡◌, true, List, [], ◌∷◌, ℕ, length,
 use Rattle.std.specs.Borrow.{Bor}
 use Rattle.words.specs.Plain.{ProductSays, WordAtSays}
 use Rattle.plan.specs.declared.Plan.{Plan}
-use Rattle.plan.specs.declared.Sector.{Sector}
 use Rattle.plan.specs.Sectors.{sector, entry_at, with_entry, filled}
 use Rattle.plan.specs.Validity.{multiples}
 use Rattle.normal.specs.declared.Normalised.{Normalised}
