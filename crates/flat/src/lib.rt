@@ -85,8 +85,7 @@ fn one_profile(
 }
 
 // The profile of one revolution into the buffer that is lent; how many words it has, 0 where the call is refused (rule 5.9).
-#[unsafe(no_mangle)]
-pub extern "C" fn slackjib_profile(
+pub fn slackjib_profile(
     plan: &[u16],
     step: Angle,
     running: u16,
@@ -118,8 +117,7 @@ pub extern "C" fn slackjib_profile(
 // The mixed profile of one revolution with these reflectors, eleven words each, into the buffer that is lent; how many words it has, 0
 // where the call is refused (rule 5.21). The start time stands in front of the mask: so both structs of one number are among the first six
 // arguments, which go in registers on every processor.
-#[unsafe(no_mangle)]
-pub extern "C" fn slackjib_mixed_profile(
+pub fn slackjib_mixed_profile(
     plan: &[u16],
     step: Angle,
     running: u16,
