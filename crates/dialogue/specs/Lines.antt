@@ -1,7 +1,6 @@
 -- Rules 7.10 and 7.11, the program: the line of a record, in ASCII. The running number, the number for no and how many words there are, in
 -- decimal; then each word in hex.
-use Rattle.std.specs.Prelude.{List, [], ◌∷◌, ◌++◌, ℕ, zero, suc, ◌+◌, ◌/◌, ◌%◌, leb, ltb, eqb, length, get_or}
-use Rattle.words.specs.Choice.{if◌then◌else◌}
+use Rattle.std.specs.Prelude.{List, [], ◌∷◌, ◌++◌, ℕ, zero, suc, ◌+◌, ◌/◌, ◌%◌, leb, ltb, eqb, length, get_or, if◌then◌else◌}
 use Rattle.words.specs.Buffers.{Wrote, in_turn}
 
 -- the character of a digit, 0 to 9 and A to F (rule 7.11)

@@ -1,6 +1,5 @@
 -- Rule 7.10, the program: a record of its input, which is a count of words in one byte, and so many words of two bytes each.
-use Rattle.std.specs.Prelude.{◌≡◌, Bool, true, false, List, [], ◌∷◌, ℕ, ◌+◌, ◌*◌, leb, length, get_or}
-use Rattle.words.specs.Choice.{if◌then◌else◌}
+use Rattle.std.specs.Prelude.{◌≡◌, Bool, true, false, List, [], ◌∷◌, ℕ, ◌+◌, ◌*◌, leb, length, get_or, if◌then◌else◌}
 use Rattle.words.specs.Buffers.{over, in_turn}
 use Rattle.dialogue.specs.declared.Record.{Record}
 use Rattle.dialogue.specs.declared.Record.TheVariants.{End, Cut, Whole}

@@ -1,6 +1,5 @@
 -- Rules 7.10 and 7.11, the program: a record answered with its line. Its request is lent room for the longest answer.
-use Rattle.std.specs.Prelude.{◌≡◌, List, [], ℕ, ◌+◌, ◌*◌, length}
-use Rattle.words.specs.Choice.{if◌then◌else◌}
+use Rattle.std.specs.Prelude.{◌≡◌, List, [], ℕ, ◌+◌, ◌*◌, length, if◌then◌else◌}
 use Rattle.words.specs.Lists.{some}
 use Rattle.words.specs.Buffers.{Wrote}
 use Rattle.state.specs.declared.State.{State}

@@ -1,7 +1,6 @@
 -- Rule 5.8: the length of a profile. The theorems stand in proofs/LayoutLengths.antt and
 -- proofs/GreatestLength.antt.
-use Rattle.std.specs.Prelude.{◌≡◌, ℕ, ◌+◌, ◌*◌, ◌≤◌, length}
-use Rattle.words.specs.Choice.{if◌then◌else◌}
+use Rattle.std.specs.Prelude.{◌≡◌, ℕ, ◌+◌, ◌*◌, ◌≤◌, length, if◌then◌else◌}
 use Rattle.words.specs.Bits.{bit}
 use Rattle.words.specs.Lists.{count, total}
 use Rattle.words.specs.Words.{number_of}

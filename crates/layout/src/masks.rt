@@ -1,6 +1,5 @@
 // What concerns a mask, by its number: of one word or of two.
-ghost use Rattle.std.specs.Prelude.{◌≡◌, ◌≤◌};
-ghost use Rattle.words.specs.Choice.{if◌then◌else◌};
+ghost use Rattle.std.specs.Prelude.{◌≡◌, ◌≤◌, if◌then◌else◌};
 ghost use Rattle.words.specs.Bits.{bit};
 ghost use Rattle.layout.specs.Masks.{mask_ok, point_width, uncounted};
 

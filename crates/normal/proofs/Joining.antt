@@ -8,7 +8,7 @@ use lib.Dec.{eqb}
 use lib.ListN.{length, get_or, drop, set, replicate, length-append}
 use lib.Seq.{set_at, append_snoc}
 use borrow.Author.Tests.{ne_eqb, eqb-true}
-use Rattle.words.specs.Choice.{if◌then◌else◌}
+use Rattle.std.specs.Prelude.{if◌then◌else◌}
 use Rattle.plan.specs.declared.Sector.{Sector}
 use Rattle.plan.specs.Sectors.{unused, filled, active}
 use Rattle.normal.specs.NormalForm.{joined, normal}

@@ -1,6 +1,5 @@
 -- Rules 3.10 and 3.11 and the numbers 9 to 11: the normal plan, and what the call answers.
-use Rattle.std.specs.Prelude.{◌≡◌, not, ◌&&◌, List, [], ◌∷◌, ℕ, eqb}
-use Rattle.words.specs.Choice.{if◌then◌else◌}
+use Rattle.std.specs.Prelude.{◌≡◌, not, ◌&&◌, List, [], ◌∷◌, ℕ, eqb, if◌then◌else◌}
 use Rattle.words.specs.Lists.{some, every}
 use Rattle.plan.specs.declared.Sector.{Sector}
 use Rattle.plan.specs.declared.Plan.{Plan}

@@ -9,7 +9,7 @@ use lib.ListN.{length, get_or, drop, drop_of_length-le}
 use Rattle.units.specs.declared.Angle.{Angle}
 use Rattle.units.specs.Directions.{circle, step_after, shots_to}
 use Rattle.units.proofs.ShotCounts.{few}
-use Rattle.words.specs.Choice.{if◌then◌else◌}
+use Rattle.std.specs.Prelude.{if◌then◌else◌}
 use Rattle.words.proofs.Arrays.{from_here}
 use Rattle.plan.specs.declared.Sector.{Sector}
 use Rattle.plan.specs.declared.Plan.{Plan}

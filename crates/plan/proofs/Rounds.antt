@@ -8,7 +8,7 @@ use native.Mathlib.Omega.{arith}
 use lib.Dec.{leb}
 use lib.ListN.{length, get_or, get_or-map}
 use borrow.Author.Tests.{le-leb, lt-leb, leb-false}
-use Rattle.words.specs.Choice.{if◌then◌else◌}
+use Rattle.std.specs.Prelude.{if◌then◌else◌}
 use Rattle.words.specs.Lists.{Each, none}
 use Rattle.words.proofs.Each.{each_append, each_from, each_at, each_map}
 use Rattle.units.specs.Directions.{circle, step_after, revolution_shots}

@@ -9,7 +9,7 @@ use lib.Dec.{eqb}
 use lib.ListN.{length, get_or, take, drop, length-append}
 use borrow.Author.Tests.{eqb-true}
 use lib.Seq.{take_at, drop_at, get_or-drop, get_or-take}
-use Rattle.words.specs.Choice.{if◌then◌else◌}
+use Rattle.std.specs.Prelude.{if◌then◌else◌}
 use Rattle.words.specs.Lists.{count, total}
 use Rattle.units.specs.Directions.{circle, step_after}
 use Rattle.plan.specs.declared.Sector.{Sector}

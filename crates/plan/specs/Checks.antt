@@ -1,7 +1,6 @@
 -- Rule 4.18: the four checks, in their order, of a plan, a step and a running speed.
-use Rattle.std.specs.Prelude.{Bool, not, ◌&&◌, ◌||◌, ℕ, ◌*◌, ltb, eqb}
+use Rattle.std.specs.Prelude.{Bool, not, ◌&&◌, ◌||◌, ℕ, ◌*◌, ltb, eqb, if◌then◌else◌}
 use Rattle.units.specs.Directions.{revolution_shots}
-use Rattle.words.specs.Choice.{if◌then◌else◌}
 use Rattle.words.specs.Lists.{some}
 use Rattle.plan.specs.declared.Plan.{Plan}
 use Rattle.plan.specs.Sectors.{active_of}

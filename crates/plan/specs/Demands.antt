@@ -1,7 +1,6 @@
 -- What is promised of plans, as statements over the definitions above. The proofs stand in proofs/Rounds.antt and Tiling.antt.
-use Rattle.std.specs.Prelude.{◌≡◌, List, [], ◌∷◌, ℕ, ◌+◌, ◌-◌, ◌<◌, T, leb, eqb, length, get_or, take, drop}
+use Rattle.std.specs.Prelude.{◌≡◌, List, [], ◌∷◌, ℕ, ◌+◌, ◌-◌, ◌<◌, T, leb, eqb, length, get_or, take, drop, if◌then◌else◌}
 use Rattle.units.specs.Directions.{steps_past, revolution_shots}
-use Rattle.words.specs.Choice.{if◌then◌else◌}
 use Rattle.words.specs.Lists.{count, total}
 use Rattle.plan.specs.declared.Sector.{Sector}
 use Rattle.plan.specs.declared.Plan.{Plan}

@@ -1,8 +1,7 @@
 -- Rules, sections 2 and 3: angle steps, the entries of a plan and their ranges, the active sectors.
-use Rattle.std.specs.Prelude.{Bool, ◌&&◌, ◌||◌, List, [], ◌∷◌, ◌++◌, ℕ, ◌-◌, leb, eqb, length, get_or, set, replicate}
+use Rattle.std.specs.Prelude.{Bool, ◌&&◌, ◌||◌, List, [], ◌∷◌, ◌++◌, ℕ, ◌-◌, leb, eqb, length, get_or, set, replicate, if◌then◌else◌}
 use Rattle.units.specs.Units.{angle}
 use Rattle.units.specs.Directions.{on_circle, divides_circle}
-use Rattle.words.specs.Choice.{if◌then◌else◌}
 use Rattle.words.specs.Lists.{every}
 use Rattle.plan.specs.declared.Sector.{Sector}
 use Rattle.plan.specs.declared.Plan.{Plan}

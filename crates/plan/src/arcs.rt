@@ -1,6 +1,5 @@
 // What each active sector is in a revolution.
-ghost use Rattle.std.specs.Prelude.{◌≡◌, eqb};
-ghost use Rattle.words.specs.Choice.{if◌then◌else◌};
+ghost use Rattle.std.specs.Prelude.{◌≡◌, eqb, if◌then◌else◌};
 ghost use Rattle.plan.specs.Shots.{arc_of, no_arc, arc_at};
 
 use crate::active::last_stop;

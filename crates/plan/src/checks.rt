@@ -1,6 +1,5 @@
 // The four checks of TRANS_MEASURE (rule 4.18).
-ghost use Rattle.std.specs.Prelude.{◌≡◌};
-ghost use Rattle.words.specs.Choice.{if◌then◌else◌};
+ghost use Rattle.std.specs.Prelude.{◌≡◌, if◌then◌else◌};
 ghost use Rattle.plan.specs.Checks.{is_lit, lit_shots, measure_error};
 
 use crate::active::{active_count, rising, whole_steps};

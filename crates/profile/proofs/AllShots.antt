@@ -8,7 +8,7 @@ use native.Mathlib.Omega.{arith}
 use lib.Dec.{eqb}
 use lib.ListN.{length, get_or}
 use borrow.Author.Tests.{eqb-true}
-use Rattle.words.specs.Choice.{if◌then◌else◌}
+use Rattle.std.specs.Prelude.{if◌then◌else◌}
 use Rattle.words.specs.Words.{laid_all}
 use Rattle.words.specs.Buffers.{in_turn}
 use Rattle.words.proofs.Puts.{turn_first, turns_same}
@@ -62,16 +62,13 @@ measured_none mask step g f (suc n) k d e = rw e (measured_none mask step g f n 
 sector_shots : (mask step before shot : ℕ) (g : Scan) (s : Sector)
     → points_of mask step g (arc_of step before shot s) ≡ measured_from mask g shot (shots step s.function (step_after step before) (shots_of step before s))
 unfolding points_of in_turn
-sector_shots mask step before shot g s = go (eqb s.function 3) refl
+sector_shots mask step before shot g s = of_function s.function (shots_of step before s) (eqb s.function 3) refl
   where
-    n : ℕ
-    n = shots_of step before s
-
-    go : (b : Bool) → eqb s.function 3 ≡ b
+    of_function : (f n : ℕ) (b : Bool) → eqb f 3 ≡ b
         → in_turn (λ i. words_at mask g (shot + i) (steps_past step i (step_after step before))) (if b then n else 0)
-        ≡ measured_from mask g shot (shots step s.function (step_after step before) n)
-    go true e = rw (eqb-true s.function 3 e) (sym (measured_turns mask step g n shot (step_after step before) (omega arith)))
-    go false e = sym (measured_none mask step g s.function n shot (step_after step before) e)
+        ≡ measured_from mask g shot (shots step f (step_after step before) n)
+    of_function f n true e = rw (eqb-true f 3 e) (sym (measured_turns mask step g n shot (step_after step before) (omega arith)))
+    of_function f n false e = sym (measured_none mask step g f n shot (step_after step before) e)
 
 all_shots : (mask step rate number before shot : ℕ) (g : Scan) (ss : List Sector)
     → laid_all (λ f. f.body) (sectors_of mask step rate g number (arcs_from step before shot ss))

@@ -7,7 +7,7 @@ use native.Mathlib.Nat.{zero-add, add-zero, mul-le-mul_right}
 use native.Mathlib.Omega.{arith}
 use lib.Dec.{T}
 use lib.ListN.{length, get_or}
-use Rattle.words.specs.Choice.{if◌then◌else◌}
+use Rattle.std.specs.Prelude.{if◌then◌else◌}
 use Rattle.words.specs.Bits.{bit}
 use Rattle.words.specs.Lists.{some, total}
 use Rattle.words.specs.Words.{given_if, number_of}

@@ -7,7 +7,7 @@ use native.Mathlib.Omega.{arith}
 use lib.Dec.{T, leb, ltb, eqb, le→leb, leb→le}
 use lib.ListN.{length}
 use borrow.Author.Tests.{eqb-false, leb-true, leb-false, lt-ltb, le-ltb}
-use Rattle.words.specs.Choice.{if◌then◌else◌}
+use Rattle.std.specs.Prelude.{if◌then◌else◌}
 use Rattle.words.specs.Numbers.{no, first_of}
 use Rattle.words.proofs.Tests.{and_l, and_r, and_both}
 use Rattle.layout.specs.MixedMasks.{admitted, reflector_length, most_reflectors}

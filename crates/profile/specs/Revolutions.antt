@@ -1,6 +1,5 @@
 -- Rules, section 5, and the numbers 1, 7, 8, 27 and 6: what a revolution does.
-use Rattle.std.specs.Prelude.{Bool, not, ◌&&◌, List, [], ℕ, ◌+◌, ◌-◌, ◌%◌, leb, eqb, length}
-use Rattle.words.specs.Choice.{if◌then◌else◌}
+use Rattle.std.specs.Prelude.{Bool, not, ◌&&◌, List, [], ℕ, ◌+◌, ◌-◌, ◌%◌, leb, eqb, length, if◌then◌else◌}
 use Rattle.units.specs.Directions.{revolution_shots}
 use Rattle.layout.specs.declared.Mask.{Mask}
 use Rattle.layout.specs.MixedMasks.{reflector_length, most_reflectors}

@@ -8,7 +8,7 @@ use lib.Dec.{ltb}
 use lib.ListN.{length, drop, length-drop}
 use borrow.Author.Tests.{le-leb, lt-ltb, le-ltb, ltb-true, ltb-false}
 use Rattle.words.specs.declared.Took.{Took}
-use Rattle.words.specs.Choice.{if◌then◌else◌}
+use Rattle.std.specs.Prelude.{if◌then◌else◌}
 use Rattle.words.specs.Bits.{bit}
 use Rattle.words.specs.Parse.{Got, short, got, Parser, after, map_got, times_parse}
 use Rattle.words.specs.Places.{take_at}

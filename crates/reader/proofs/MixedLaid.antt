@@ -1,7 +1,7 @@
 -- The layout of a mixed profile is the format's: behind the words that depend on no bit stands a contour as its format lays it out, then the
 -- word of bit 16, then the reflectors.
-use Prim.Native.Nat.{ℕ, ◌*◌, ◌≤◌}
-use mathlib.Core.Path.{◌≡◌, refl, sym, ◌∙◌, ap, subst}
+use Prim.Native.Nat.{ℕ, ◌≤◌}
+use mathlib.Core.Path.{◌≡◌, refl, sym, ◌∙◌, ap}
 use mathlib.Core.List.{List, [], ◌++◌, append_assoc, append-nil}
 use mathlib.Core.Bool.{Bool}
 use lib.ListN.{length, get_or, take, drop, take-append-drop}
@@ -9,12 +9,11 @@ use lib.Seq.{length-take-le}
 use Rattle.words.specs.declared.Word.{Word}
 use Rattle.words.specs.Bits.{bit}
 use Rattle.words.specs.Words.{words_of, number_of, Shaped}
-use Rattle.words.specs.Parse.{got}
 use Rattle.words.specs.Format.{one}
 use Rattle.words.proofs.Lawful.{Sound, one_lawful}
 use Rattle.layout.specs.Bits as bits
 use Rattle.layout.specs.declared.Kind.{Kind}
-use Rattle.layout.specs.MixedMasks.{reflector_width, most_reflectors}
+use Rattle.layout.specs.MixedMasks.{most_reflectors}
 use Rattle.layout.specs.Fields.{SectorFields}
 use Rattle.layout.specs.Layout.{contour}
 use Rattle.layout.specs.Mixed.{MixedFields, layout_mixed, MixedAcceptable, mixed_head_length}

@@ -36,8 +36,8 @@ use Rattle.reader.proofs.HeadNumbers.{mixed_table}
 use Rattle.reader.proofs.Bodies.{body_extends}
 use Rattle.reader.proofs.Prefixes.{not_both}
 use Rattle.reader.proofs.MixedAccepted.{ContourParsed, CountParsed, MixedParsed, MixedOutcome, refused, cut_contour, cut_count, too_many}
-use Rattle.reader.proofs.MixedAccepted.{cut_reflectors, over, whole, contour_found, count_found, reflector_words, by_many, mixed_outcome}
-use Rattle.reader.proofs.Laid.{fields_of, acceptable, laid}
+use Rattle.reader.proofs.MixedAccepted.{cut_reflectors, over, whole, count_found, reflector_words, by_many, mixed_outcome}
+use Rattle.reader.proofs.Laid.{laid}
 use Rattle.reader.proofs.Readers.{over_laid, none_within}
 use Rattle.reader.proofs.Refusals.{GivenBy, by_head, by_body, by_table, words_first, not_below, below, none_lent}
 use Rattle.reader.proofs.MixedLaid.{mixed_of, mixed_acceptable, mixed_laid, contour_head, contour_sound, contour_read, count_sound, behind_words}

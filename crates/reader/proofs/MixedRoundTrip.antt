@@ -6,7 +6,7 @@ use mathlib.Core.Bool.{Bool}
 use mathlib.Core.List.{List, [], ◌∷◌, ◌++◌, append_assoc, append-nil}
 use native.Mathlib.Omega.{arith}
 use lib.Dec.{T}
-use lib.ListN.{length, get_or, take, drop, length-append}
+use lib.ListN.{length, take, drop, length-append}
 use lib.Seq.{take_at, drop_at}
 use Rattle.words.specs.declared.Word.{Word}
 use Rattle.words.specs.Bits.{bit}
@@ -18,17 +18,16 @@ use Rattle.words.proofs.Lawful.{Complete, one_lawful}
 use Rattle.layout.specs.Bits as bits
 use Rattle.layout.specs.declared.Kind.{Kind}
 use Rattle.layout.specs.MixedMasks.{reflector_width}
-use Rattle.layout.specs.Fields.{Fields}
 use Rattle.layout.specs.Layout.{contour}
 use Rattle.layout.specs.Mixed.{MixedFields, layout_mixed, MixedAcceptable, mixed_head_length}
 use Rattle.reader.specs.declared.MixedReading.{MixedReading}
-use Rattle.reader.specs.Readings.{sectors_in, body, read_of}
-use Rattle.reader.specs.Mixed.{mixed_mask_in, mixed_head_refusal, accepted_mixed, mixed_left, read_mixed_of}
+use Rattle.reader.specs.Readings.{sectors_in, body}
+use Rattle.reader.specs.Mixed.{mixed_head_refusal, accepted_mixed, mixed_left, read_mixed_of}
 use Rattle.reader.specs.MixedParts.{head_of}
 use Rattle.reader.specs.MixedStretches.{mixed_fields_in, contour_in}
 use Rattle.reader.specs.MixedDemands.{MixedAcceptsExactly, MixedPutTogether, MixedReadsBack, MixedOneReading, OneKind}
 use Rattle.reader.proofs.Accepted.{accepted}
-use Rattle.reader.proofs.MixedAccepted.{ContourParsed, CountParsed, MixedAccepted, count_found, reflector_words, by_left, mixed_accepted}
+use Rattle.reader.proofs.MixedAccepted.{ContourParsed, CountParsed, MixedAccepted, reflector_words, by_left, mixed_accepted}
 use Rattle.reader.proofs.Laid.{body_fields, fields_of, contour_back, many_back, entries_read, counts, head_laid}
 use Rattle.reader.proofs.MixedLaid.{contour_head, mixed_fields, mixed_fit, mixed_laid_out}
 use Rattle.reader.proofs.Readers.{Reads, takes_exactly, loses_none, laid_once}

@@ -1,7 +1,6 @@
 -- Rule 5.16: the place at which words end before the profile does. It is the index of the first missing word and the part to which that
 -- word belongs: the first that is not whole.
-use Rattle.std.specs.Prelude.{List, ℕ, zero, suc, ◌+◌, ltb, length, drop}
-use Rattle.words.specs.Choice.{if◌then◌else◌}
+use Rattle.std.specs.Prelude.{List, ℕ, zero, suc, ◌+◌, ltb, length, drop, if◌then◌else◌}
 use Rattle.words.specs.Lists.{count}
 use Rattle.words.specs.Bits.{bit}
 use Rattle.words.specs.Parse.{Got, short, got, Parser}

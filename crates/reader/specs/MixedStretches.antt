@@ -1,8 +1,7 @@
 -- Rules 5.23 and 5.24: the points of a sector and the words of a reflector of a mixed profile, parts of the words given; and the words put
 -- together again.
-use Rattle.std.specs.Prelude.{◌≡◌, List, [], ◌++◌, map, ℕ, ◌+◌, ◌*◌, ltb, eqb, length, get_or, take, drop}
+use Rattle.std.specs.Prelude.{◌≡◌, List, [], ◌++◌, map, ℕ, ◌+◌, ◌*◌, ltb, eqb, length, get_or, take, drop, if◌then◌else◌}
 use Rattle.std.specs.Borrow.{Bor}
-use Rattle.words.specs.Choice.{if◌then◌else◌}
 use Rattle.words.specs.Words.{number_of, words_of, laid_all}
 use Rattle.layout.specs.MixedMasks.{mixed_number}
 use Rattle.layout.specs.Fields.{Fields}

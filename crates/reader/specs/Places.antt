@@ -1,7 +1,6 @@
 -- Technical: no rule stands here. What the loop over the sectors finds: a format read from a place of the words that may be one past their
 -- end; and the part at which the words end, by places.
-use Rattle.std.specs.Prelude.{◌≡◌, List, [], ℕ, ◌+◌, ◌-◌, ◌≤◌, ◌<◌, leb, ltb, length, drop}
-use Rattle.words.specs.Choice.{if◌then◌else◌}
+use Rattle.std.specs.Prelude.{◌≡◌, List, [], ℕ, ◌+◌, ◌-◌, ◌≤◌, ◌<◌, leb, ltb, length, drop, if◌then◌else◌}
 use Rattle.words.specs.Bits.{bit}
 use Rattle.words.specs.Lists.{count}
 use Rattle.words.specs.Parse.{Got, short, got}

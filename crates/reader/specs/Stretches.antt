@@ -1,8 +1,7 @@
 -- Rules 5.13 and 5.15: the points of a sector, a part of the words given that is asked by the sector's place; and
 -- the words put together again.
-use Rattle.std.specs.Prelude.{◌≡◌, List, [], ◌++◌, map, ℕ, ◌+◌, ◌*◌, ltb, eqb, length, get_or, take, drop}
+use Rattle.std.specs.Prelude.{◌≡◌, List, [], ◌++◌, map, ℕ, ◌+◌, ◌*◌, ltb, eqb, length, get_or, take, drop, if◌then◌else◌}
 use Rattle.std.specs.Borrow.{Bor}
-use Rattle.words.specs.Choice.{if◌then◌else◌}
 use Rattle.words.specs.Words.{number_of, laid_all}
 use Rattle.layout.specs.Fields.{SectorFields, Fields}
 use Rattle.layout.specs.Layout.{head, opening, layout_sector, front, layout}

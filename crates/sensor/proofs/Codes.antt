@@ -7,7 +7,7 @@ use Prim.Native.Nat.{ℕ, ◌%◌}
 use native.Mathlib.Omega.{arith}
 use lib.Dec.{T, ltb, eqb}
 use borrow.Author.Tests.{eqb-true, ltb-true}
-use Rattle.words.specs.Choice.{if◌then◌else◌}
+use Rattle.std.specs.Prelude.{if◌then◌else◌}
 use Rattle.words.specs.Lists.{every}
 use Rattle.words.proofs.Tests.{and_l, and_r, is_true, picked}
 use Rattle.sensor.specs.declared.Service.{Service}

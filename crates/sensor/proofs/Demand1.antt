@@ -8,7 +8,7 @@ use lib.Dec.{T, ltb, eqb}
 use lib.ListN.{length, get_or, take}
 use lib.Seq.{length-take-le, take-append_seam}
 use borrow.Author.Tests.{ne_eqb, eqb-true, ltb-true, le-ltb}
-use Rattle.words.specs.Choice.{if◌then◌else◌}
+use Rattle.std.specs.Prelude.{if◌then◌else◌}
 use Rattle.words.specs.Lists.{some, every, are_words}
 use Rattle.words.specs.Numbers.{no, first_of}
 use Rattle.words.specs.Buffers.{over}

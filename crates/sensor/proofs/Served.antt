@@ -8,7 +8,7 @@ use native.Mathlib.Omega.{arith}
 use lib.Dec.{T, leb, eqb, leb→le, eqb→eq}
 use lib.ListN.{length, get_or, take}
 use borrow.Author.Tests.{eqb-true}
-use Rattle.words.specs.Choice.{if◌then◌else◌}
+use Rattle.std.specs.Prelude.{if◌then◌else◌}
 use Rattle.words.proofs.Tests.{and_l, and_r, is_true, holds}
 use Rattle.state.specs.declared.State.{State}
 use Rattle.state.specs.Nav300.{reflector, with_rotation, with_reflector, rotation_ok, threshold_ok, radius_ok}

@@ -1,6 +1,5 @@
 -- Rules, section 6: a request, its refusals 1 to 6 in order, and what it hands back.
-use Rattle.std.specs.Prelude.{not, List, ℕ, eqb, length, get_or}
-use Rattle.words.specs.Choice.{if◌then◌else◌}
+use Rattle.std.specs.Prelude.{not, List, ℕ, eqb, length, get_or, if◌then◌else◌}
 use Rattle.state.specs.declared.State.{State}
 use Rattle.state.specs.declared.Mode.{Mode}
 use Rattle.state.specs.Ranges.{in_range}

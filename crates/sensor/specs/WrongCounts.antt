@@ -1,6 +1,5 @@
 -- What is promised of a wrong number of words. Proved in proofs/Miscounted.antt.
-use Rattle.std.specs.Prelude.{◌≡◌, ◌↔◌, Bool, not, ◌&&◌, List, [], ◌∷◌, ℕ, T, length, get_or}
-use Rattle.words.specs.Choice.{if◌then◌else◌}
+use Rattle.std.specs.Prelude.{◌≡◌, ◌↔◌, Bool, not, ◌&&◌, List, [], ◌∷◌, ℕ, T, length, get_or, if◌then◌else◌}
 use Rattle.state.specs.declared.State.{State}
 use Rattle.state.specs.Ranges.{in_range}
 use Rattle.state.specs.Replies.{refused, delivered}

@@ -1,6 +1,5 @@
 // The table: codes, words in, modes, and the function of each service (rule 4.3).
-ghost use Rattle.std.specs.Prelude.{◌≡◌, not, ◌%◌};
-ghost use Rattle.words.specs.Choice.{if◌then◌else◌};
+ghost use Rattle.std.specs.Prelude.{◌≡◌, not, ◌%◌, if◌then◌else◌};
 ghost use Rattle.services.specs.Answers.{Gives};
 ghost use Rattle.sensor.specs.Table.{row_of, response, listed, Lists};
 

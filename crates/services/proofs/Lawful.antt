@@ -9,7 +9,7 @@ use lib.Dec.{T, ltb, leb, eqb, leb→le, le→leb, eqb→eq}
 use lib.ListN.{length, take, length-set}
 use borrow.Author.Tests.{ne_eqb, lt-ltb, eqb-false, not-true}
 use Rattle.units.specs.Directions.{circle}
-use Rattle.words.specs.Choice.{if◌then◌else◌}
+use Rattle.std.specs.Prelude.{if◌then◌else◌}
 use Rattle.words.proofs.Tests.{and_l, and_r, and_both, holds}
 use Rattle.layout.specs.declared.Kind.{Kind}
 use Rattle.layout.specs.declared.Mask.{Mask}

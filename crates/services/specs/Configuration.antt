@@ -1,6 +1,5 @@
 -- Rules, section 4: SET_CONFIG, GET_CONFIG, SET_FUNCTION, GET_FUNCTION.
-use Rattle.std.specs.Prelude.{Bool, ◌&&◌, ◌||◌, [], ◌∷◌, ℕ, ◌%◌, ltb, eqb}
-use Rattle.words.specs.Choice.{if◌then◌else◌}
+use Rattle.std.specs.Prelude.{Bool, ◌&&◌, ◌||◌, [], ◌∷◌, ℕ, ◌%◌, ltb, eqb, if◌then◌else◌}
 use Rattle.units.specs.Directions.{circle}
 use Rattle.plan.specs.declared.Plan.{Plan}
 use Rattle.plan.specs.Sectors.{sector, stop_of, entry_at, with_entry}

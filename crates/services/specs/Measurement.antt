@@ -1,6 +1,5 @@
 -- Rules, section 4: GET_PROFILE, CANCEL_PROFILE.
-use Rattle.std.specs.Prelude.{Bool, not, [], ◌∷◌, ℕ, eqb}
-use Rattle.words.specs.Choice.{if◌then◌else◌}
+use Rattle.std.specs.Prelude.{Bool, not, [], ◌∷◌, ℕ, eqb, if◌then◌else◌}
 use Rattle.layout.specs.declared.Kind.{Kind}
 use Rattle.layout.specs.declared.Mask.{Mask}
 use Rattle.layout.specs.Masks.{cleared}

@@ -1,6 +1,5 @@
 -- Rules 4.23 and 4.24: GET_MIXED_PROFILE, CANCEL_MIXED_PROFILE.
-use Rattle.std.specs.Prelude.{Bool, [], ◌∷◌, ℕ}
-use Rattle.words.specs.Choice.{if◌then◌else◌}
+use Rattle.std.specs.Prelude.{Bool, [], ◌∷◌, ℕ, if◌then◌else◌}
 use Rattle.layout.specs.declared.Kind.{Kind}
 use Rattle.layout.specs.declared.Mask.{Mask}
 use Rattle.layout.specs.MixedMasks.{admitted}

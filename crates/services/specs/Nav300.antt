@@ -1,6 +1,5 @@
 -- Rules, section 4: SET_ROTATE_DIRECTION, GET_ROTATE_DIRECTION, SET_REFLECTOR_CONFIG, GET_REFLECTOR_CONFIG, SAVE_PERMANENT.
-use Rattle.std.specs.Prelude.{Bool, ◌&&◌, [], ◌∷◌, ℕ}
-use Rattle.words.specs.Choice.{if◌then◌else◌}
+use Rattle.std.specs.Prelude.{Bool, ◌&&◌, [], ◌∷◌, ℕ, if◌then◌else◌}
 use Rattle.state.specs.declared.State.{State}
 use Rattle.state.specs.Nav300.{reflector, with_rotation, with_reflector, saved, rotation_ok, threshold_ok, radius_ok}
 use Rattle.state.specs.Fields.{with_settings}

@@ -1,6 +1,5 @@
 -- Rules, section 4: DO_RESET, TRANS_IDLE, TRANS_ROTATE, TRANS_MEASURE. Whatever leaves MEASURE ends the job.
-use Rattle.std.specs.Prelude.{List, [], ◌∷◌, ◌++◌, ℕ, ltb, eqb}
-use Rattle.words.specs.Choice.{if◌then◌else◌}
+use Rattle.std.specs.Prelude.{List, [], ◌∷◌, ◌++◌, ℕ, ltb, eqb, if◌then◌else◌}
 use Rattle.plan.specs.Checks.{measure_error}
 use Rattle.state.specs.declared.State.{State}
 use Rattle.state.specs.declared.Mode.{Mode}

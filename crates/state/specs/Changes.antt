@@ -1,6 +1,5 @@
 -- The parts of a state, and a state that differs from another in some of them alone.
-use Rattle.std.specs.Prelude.{Bool, false, ◌||◌, List, [], ◌∷◌, ℕ, eqb}
-use Rattle.words.specs.Choice.{if◌then◌else◌}
+use Rattle.std.specs.Prelude.{Bool, false, ◌||◌, List, [], ◌∷◌, ℕ, eqb, if◌then◌else◌}
 use Rattle.state.specs.declared.State.{State}
 use Rattle.state.specs.Nav300.{settings_of}
 
@@ -35,8 +34,8 @@ part_number saved = 10
 
 -- the part is one of these (rule 4.4)
 abbrev pub is_one_of : Part → List Part → Bool
-is_one_of part [] = false
-is_one_of part (p ∷ ps) = eqb (part_number part) (part_number p) || is_one_of part ps
+is_one_of one [] = false
+is_one_of one (p ∷ ps) = eqb (part_number one) (part_number p) || is_one_of one ps
 
 -- the state s, but that these parts of it are as t has them (rule 4.4)
 abbrev pub only_in : List Part → State → State → State

@@ -1,7 +1,6 @@
 -- Rules 4.17 and 6.2: what a call that is lent a buffer hands back. Refused, it leaves state and buffer as they were and counts no word;
 -- served, it writes to the buffer's front and leaves what stands behind.
-use Rattle.std.specs.Prelude.{◌≡◌, List, [], ℕ, ltb, length}
-use Rattle.words.specs.Choice.{if◌then◌else◌}
+use Rattle.std.specs.Prelude.{◌≡◌, List, [], ℕ, ltb, length, if◌then◌else◌}
 use Rattle.words.specs.Buffers.{over}
 use Rattle.state.specs.declared.State.{State}
 use Rattle.state.specs.declared.Reply.{Reply}

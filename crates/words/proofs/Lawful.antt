@@ -8,7 +8,7 @@ use lib.ListN.{length, drop, length-drop, length-append, take-append-drop}
 use lib.Seq.{length-take-le, drop-drop, take_at, drop_at}
 use lib.Dec.{leb}
 use borrow.Author.Tests.{leb-true, leb-false, le-leb}
-use Rattle.words.specs.Choice.{if◌then◌else◌}
+use Rattle.std.specs.Prelude.{if◌then◌else◌}
 use Rattle.words.specs.declared.Word.{Word}
 use Rattle.words.specs.declared.Word.TheVariants.{Absent, Given}
 use Rattle.words.specs.Words.{words_of, Shaped}

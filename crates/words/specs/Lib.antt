@@ -1,5 +1,4 @@
 -- Plain definitions
-pub mod Choice
 pub mod Lists
 pub mod Bits
 pub mod Plain

@@ -1,6 +1,5 @@
 -- Technical: no rule stands here. Tests and counts over a list.
-use Rattle.std.specs.Prelude.{Bool, true, false, ◌&&◌, List, [], ◌∷◌, ℕ, ◌+◌, ltb}
-use Rattle.words.specs.Choice.{if◌then◌else◌}
+use Rattle.std.specs.Prelude.{Bool, true, false, ◌&&◌, List, [], ◌∷◌, ℕ, ◌+◌, ltb, if◌then◌else◌}
 
 -- there is at least one
 abbrev pub some : {A : Type 0} → List A → Bool

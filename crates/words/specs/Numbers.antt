@@ -1,6 +1,5 @@
 -- Technical: no rule stands here. Numbers for no: the table of a call as data, and the number that it gives.
-use Rattle.std.specs.Prelude.{Bool, List, [], ◌∷◌, ℕ}
-use Rattle.words.specs.Choice.{if◌then◌else◌}
+use Rattle.std.specs.Prelude.{Bool, List, [], ◌∷◌, ℕ, if◌then◌else◌}
 
 -- a number, and when it is due
 pub record No : Type 0 where

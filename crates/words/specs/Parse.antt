@@ -1,7 +1,6 @@
 -- Technical: no rule stands here. Parsers over lists of words. A parser is handed the place it stands at and the words from there on, and
 -- finds that the words end early, or a value with the place and the words behind it.
-use Rattle.std.specs.Prelude.{ℕ, zero, suc, ◌+◌, List, [], ◌∷◌, Bool, true, false, length, drop, leb}
-use Rattle.words.specs.Choice.{if◌then◌else◌}
+use Rattle.std.specs.Prelude.{ℕ, zero, suc, ◌+◌, List, [], ◌∷◌, Bool, true, false, length, drop, leb, if◌then◌else◌}
 use Rattle.words.specs.declared.Word.{Word}
 use Rattle.words.specs.declared.Word.TheVariants.{Absent, Given}
 

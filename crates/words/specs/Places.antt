@@ -1,7 +1,6 @@
 -- Technical: no rule stands here. Words by their places in a list. A place one past the end says that the words have ended early, and stays
 -- so.
-use Rattle.std.specs.Prelude.{Bool, List, ℕ, ◌+◌, ◌-◌, ltb, length, get_or}
-use Rattle.words.specs.Choice.{if◌then◌else◌}
+use Rattle.std.specs.Prelude.{Bool, List, ℕ, ◌+◌, ◌-◌, ltb, length, get_or, if◌then◌else◌}
 use Rattle.words.specs.declared.Word.TheVariants.{Absent, Given}
 use Rattle.words.specs.declared.Took.{Took}
 

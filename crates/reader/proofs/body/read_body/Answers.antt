@@ -1,6 +1,5 @@
 -- `read_body`: what the contour gives, by each way out.
 use native.Mathlib.Omega.{arith}
-use mir.Facts.{Fits-widen}
 use borrow.Author.Rules.{rules}
 use Rattle.layout.specs.declared.Kind.{Kind}
 use Rattle.reader.proofs.Heads.{head_long, head_has, head_some, head_few}
@@ -9,9 +8,6 @@ use Rattle.reader.proofs.body.read_body.Goals as goal
 
 pub bounds-words-1 : goal.bounds-words-1
 bounds-words-1 c = search (rules, head_has Kind.Plain)
-
-pub overflow_cast-mask : goal.overflow_cast-mask
-overflow_cast-mask c = Fits-widen tt (c.shared_slice_known-2-1.given 1)
 
 pub bounds-words-2 : goal.bounds-words-2
 bounds-words-2 c = search (rules, head_has Kind.Plain)

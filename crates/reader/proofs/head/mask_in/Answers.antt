@@ -1,5 +1,4 @@
 -- `mask_in`: by the kind.
-use mir.Facts.{Fits-widen}
 use borrow.Author.Rules.{rules}
 use Rattle.reader.proofs.Heads.{kind_has, mask_there}
 use Rattle.reader.proofs.head.mask_in.Goals as goal
@@ -8,7 +7,7 @@ pub bounds-words-1 : goal.bounds-words-1
 bounds-words-1 c = search (kind_has, rules)
 
 pub bounds-words-1-in-Mixed : goal.bounds-words-1-in-Mixed
-bounds-words-1-in-Mixed c = Fits-widen tt (c.shared-slice-known2.given 1)
+bounds-words-1-in-Mixed c = search (kind_has, rules)
 
 pub bounds-words-2 : goal.bounds-words-2
 bounds-words-2 c = search (kind_has, rules)

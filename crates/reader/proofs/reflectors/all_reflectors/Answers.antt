@@ -1,28 +1,20 @@
 -- `all_reflectors`: the reflectors that were read are within the words.
 use mathlib.Core.Path.{refl}
-use Prim.Native.Nat.{◌+◌, ◌*◌, ◌≤◌}
 use native.Mathlib.Omega.{arith}
-use lib.ListN.{length}
 use Rattle.reader.proofs.ReflectorPlaces.{reflectors_inside, reflectors_lent}
 use Rattle.reader.proofs.reflectors.all_reflectors.Goals as goal
 
--- where they end
-inside : (c : tie.After-struct-known)
-    → let r = c.before.before.read_mixed.result in
-    r.start + c.before.number_of.result * r.width ≤ length c.before.before.before.before.args.words.now
-inside c = reflectors_inside _ _ c.before.before.read_mixed.ensures _ c.before.number_of.ensures
-
 pub overflow_mul-end : goal.overflow_mul-end
-overflow_mul-end c = omega (arith, inside c)
+overflow_mul-end c = omega (arith, reflectors_inside _ _ c.read_mixed-reading.ensures _ c.number_of.ensures)
 
 pub overflow_add-end : goal.overflow_add-end
-overflow_add-end c = omega (arith, inside c)
+overflow_add-end c = omega (arith, reflectors_inside _ _ c.read_mixed-reading.ensures _ c.number_of.ensures)
 
 pub offset_bounds-words-start : goal.offset_bounds-words-start
-offset_bounds-words-start c = omega (arith, inside c)
+offset_bounds-words-start c = omega (arith, reflectors_inside _ _ c.read_mixed-reading.ensures _ c.number_of.ensures)
 
 pub slice_bounds-result-end : goal.slice_bounds-result-end
-slice_bounds-result-end c = omega (arith, inside c)
+slice_bounds-result-end c = omega (arith, reflectors_inside _ _ c.read_mixed-reading.ensures _ c.number_of.ensures)
 
 pub returns : goal.returns
 returns c = reflectors_lent _ _ c.read_mixed-reading.ensures _ c.number_of.ensures _ refl refl

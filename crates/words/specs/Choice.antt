@@ -1,7 +1,0 @@
--- Technical: no rule stands here. A choice by a test, as the rules read it.
-use Rattle.std.specs.Prelude.{Bool, true, false}
-
-infix 5 if◌then◌else◌
-abbrev pub if◌then◌else◌ : {A : Type 0} → Bool → A → A → A
-if true then a else b = a
-if false then a else b = b
