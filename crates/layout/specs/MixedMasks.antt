@@ -1,5 +1,5 @@
 -- Rules 2.7, 2.11, 5.4 and 5.19: the mask of a mixed profile, and the masks of both kinds. A mask is a number with bits, whichever its width.
-use Rattle.std.specs.Prelude.{Bool, true, false, not, ◌&&◌, ◌||◌, List, [], ◌∷◌, ℕ, ◌+◌, ◌*◌}
+use Rattle.std.specs.Prelude.{Bool, true, false, not, ◌&&◌, ◌||◌, List, ℕ, ◌+◌, ◌*◌}
 use Rattle.words.specs.Bits.{bit}
 use Rattle.words.specs.Lists.{every, count}
 use Rattle.layout.specs.Bits as bits

@@ -1,9 +1,8 @@
 -- What goes by shots alone is so of a scan without its reflectors too.
-use mathlib.Core.Path.{◌≡◌, refl, ap}
+use mathlib.Core.Path.{◌≡◌, refl}
 use mathlib.Core.List.{List, [], ◌∷◌}
 use Prim.Native.Nat.{ℕ, suc}
 use Rattle.words.specs.Lists.{Each, none, this}
-use Rattle.layout.specs.Fields.{SectorFields, Fields}
 use Rattle.plan.specs.declared.Arc.{Arc}
 use Rattle.state.specs.declared.State.{State}
 use Rattle.profile.specs.Profiles.{Scan, scan, points_of, sector_of, sectors_of, arcs_of, rate_of, fields_of}

@@ -1,29 +1,28 @@
 -- How long a revolution's mixed profile is, for every mask; and that its fields fit the mask.
-use mathlib.Core.Path.{◌≡◌, refl, sym, ap, ◌∙◌}
+use mathlib.Core.Path.{◌≡◌, refl, sym, ◌∙◌}
 use mathlib.Core.Bool.{Bool, true, false, not, ◌&&◌, ◌||◌}
-use mathlib.Core.List.{List, [], ◌++◌}
-use Prim.Native.Nat.{ℕ, ◌+◌, ◌*◌, ◌/◌, ◌%◌, ◌≤◌}
+use mathlib.Core.List.{List, ◌++◌}
+use Prim.Native.Nat.{ℕ, ◌+◌, ◌*◌, ◌%◌, ◌≤◌}
 use native.Mathlib.Nat.{mul-zero}
 use native.Mathlib.Omega.{arith}
 use lib.Dec.{T, eqb, leb, leb→le, eqb→eq}
 use lib.ListN.{length, get_or, length-append}
 use Rattle.std.specs.Prelude.{if◌then◌else◌}
 use Rattle.words.specs.Bits.{bit}
-use Rattle.words.specs.Lists.{count, total}
+use Rattle.words.specs.Lists.{total}
 use Rattle.words.specs.Words.{given_if, number_of}
 use Rattle.words.proofs.Puts.{turns_long}
-use Rattle.words.proofs.Tests.{and_l, and_r, is_true}
+use Rattle.words.proofs.Tests.{and_l, and_r}
 use Rattle.layout.specs.Bits as bits
 use Rattle.layout.specs.Masks.{mask_ok, uncounted}
 use Rattle.layout.specs.MixedMasks.{mixed_number, none_of, mixed_ok, reflector_width, reflector_length, most_reflectors}
-use Rattle.layout.specs.Mixed.{mixed_head, layout_mixed, reflector_part, MixedFits, mixed_length}
+use Rattle.layout.specs.Mixed.{layout_mixed, reflector_part, MixedFits, mixed_length}
 use Rattle.layout.specs.Layout.{contour}
 use Rattle.plan.specs.Sectors.{active_of}
 use Rattle.state.specs.declared.State.{State}
 use Rattle.profile.specs.Points.{selected}
 use Rattle.profile.specs.Profiles.{Scan, arcs_of}
 use Rattle.profile.specs.Mixed.{dwords, reflector_words, reflectors_given, reflectors_of, mixed_of}
-use Rattle.profile.specs.Asked.{reflector_part_of}
 use Rattle.profile.specs.Revolutions.{reflectors_fit}
 use Rattle.profile.proofs.ProfileLengths.{one_word, shaped, contour_long, fields_fit}
 

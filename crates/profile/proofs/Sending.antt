@@ -15,8 +15,6 @@ use Rattle.words.proofs.Overs.{over_none}
 use Rattle.words.proofs.Tests.{and_l, and_r, said_no, said_yes}
 use Rattle.units.specs.Directions.{circle, revolution_shots}
 use Rattle.layout.specs.declared.Mask.{Mask}
-use Rattle.layout.specs.MixedMasks.{mixed_number}
-use Rattle.layout.specs.Mixed.{mixed_length}
 use Rattle.plan.specs.declared.Sector.{Sector}
 use Rattle.plan.specs.Sectors.{stop_of, active_of}
 use Rattle.plan.specs.Shots.{last_stop, shots_of, arc_of, arcs_from}
@@ -32,7 +30,7 @@ use Rattle.state.specs.Replies.{delivered, Answered}
 use Rattle.state.proofs.Parts.{parts}
 use Rattle.state.proofs.Measuring.{measures}
 use Rattle.state.proofs.Delivery.{reply, is_refused_lem, no_room, has_room}
-use Rattle.profile.specs.Profiles.{Scan, scan_with, arcs_of}
+use Rattle.profile.specs.Profiles.{Scan, scan_with}
 use Rattle.profile.specs.Mixed.{reflectors_given}
 use Rattle.profile.specs.Revolutions.{risen, sent_after, turned, profile_by, profile_of, revolved, lists_fit, reflectors_fit}
 use Rattle.profile.specs.Revolutions.{revolution_refusal, revolution_of}

@@ -1,21 +1,16 @@
 -- `write_contour`: its parts, and what stands in the buffer when they are written.
-use mathlib.Core.Path.{◌≡◌, ap, ◌∙◌}
+use mathlib.Core.Path.{◌≡◌}
 use mathlib.Core.List.{List, ◌++◌}
 use Prim.Native.Nat.{ℕ, ◌+◌, ◌*◌, ◌≤◌}
-use native.Mathlib.Omega.{arith}
-use lib.ListN.{length, length-append}
-use Rattle.words.specs.Buffers.{Wrote, Put}
-use Rattle.words.proofs.Puts.{room, and_put, room_first, room_second, put_both}
+use lib.ListN.{length}
+use Rattle.words.specs.Buffers.{Put}
+use Rattle.words.proofs.Puts.{room_first, room_second, put_both}
 use Rattle.units.specs.Directions.{revolution_shots}
-use Rattle.layout.specs.declared.Mask.{Mask}
-use Rattle.layout.specs.Layout.{head_length, head, contour, layout}
-use Rattle.plan.specs.Sectors.{active_of}
-use Rattle.plan.proofs.ArcSums.{count_fits}
+use Rattle.layout.specs.Layout.{contour}
 use Rattle.state.specs.declared.State.{State}
 use Rattle.state.specs.Modes.{mode_number}
-use Rattle.profile.specs.Profiles.{Scan, fields_of}
-use Rattle.profile.specs.Asked.{SectorsAsked, ContourAsked, ProfileAsked, contour_fields, sectors_words, front_words, status_words}
-use Rattle.profile.proofs.ProfileLengths.{fields_many}
+use Rattle.profile.specs.Profiles.{Scan}
+use Rattle.profile.specs.Asked.{SectorsAsked, ContourAsked, contour_fields, sectors_words, front_words, status_words}
 
 -- what is asked of `write_contour`, with the rate of shots and the number of the mode as the code has them
 pub record ContourBegun (s : State) (g : Scan) (mask layer sent counter from : ℕ) (d₀ : List ℕ) (m rate status : ℕ) : Type 0 where

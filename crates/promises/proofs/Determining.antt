@@ -3,8 +3,7 @@ use mathlib.Core.Path.{◌≡◌, refl, sym, ◌∙◌}
 use mathlib.Core.List.{List}
 use Prim.Native.Nat.{ℕ}
 use lib.ListN.{length}
-use base.Fml.{GName}
-use denote.Ref.{MutBor}
+use denote.Bor.{Bor}
 use Rattle.words.specs.Buffers.{over, Wrote}
 use Rattle.state.specs.declared.Reply.{Reply}
 use Rattle.state.specs.Replies.{Result, Answered}
@@ -32,9 +31,9 @@ answered : (before : List ℕ) (x : Result) → OneAnswer (λ (a : Reply × List
 answered before x = by_value (x.reply, over x.written before) (record { reply = refl; buffer = refl }) (λ a h i. (h.reply i, h.buffer i))
 
 -- a part of the words handed in
-lent : (words : MutBor (List ℕ)) (part : List ℕ) (start : ℕ) (name : GName)
-    → OneAnswer (λ (a : List ℕ × (ℕ × ℕ)). Lends words part start (record { ref_ptr = a.1; ghost_name = name; now = a.0 }))
-lent words part start name = by_value (_, _) (record { lends = refl; stands = refl }) (λ a h i. (h.lends i, h.stands i))
+lent : (words : Bor (List ℕ)) (part : List ℕ) (start : ℕ)
+    → OneAnswer (λ (a : List ℕ × (ℕ × ℕ)). Lends words part start (record { ref_ptr = a.1; now = a.0 }))
+lent words part start = by_value (_, _) (record { lends = refl; stands = refl }) (λ a h i. (h.lends i, h.stands i))
 
 pub determined : Determined
 determined =
@@ -43,14 +42,14 @@ determined =
       revolution = λ s g before. answered before _;
       normal_plan = λ p step. is_value _;
       read = λ ws. is_value _;
-      stretch = λ words place name. by_value (_, _) (record { lends = refl; stands = refl }) (λ a h i. (h.lends i, h.stands i));
+      stretch = λ words place. by_value (_, _) (record { lends = refl; stands = refl }) (λ a h i. (h.lends i, h.stands i));
       stretch_refusal = λ ws place. is_value _;
       read_mixed = λ ws. is_value _;
-      stretch_mixed = λ words place name. lent words _ _ name;
+      stretch_mixed = λ words place. lent words _ _;
       stretch_mixed_refusal = λ ws place. is_value _;
-      reflector = λ words place name. lent words _ _ name;
+      reflector = λ words place. lent words _ _;
       reflector_refusal = λ ws place. is_value _;
-      all_reflectors = λ words name. lent words _ _ name;
+      all_reflectors = λ words. lent words _ _;
       fresh = is_value _;
       profile =
           λ plan step running mask g before. by_value (_, _) (record { counted = refl; buffer = refl }) (λ a h i. (h.counted i, h.buffer i));

@@ -1,11 +1,10 @@
 -- Rule 1.5: each public call has exactly one answer that meets its contract, whatever it is handed
 -- and whether it is refused or not. Proved in proofs/Determining.antt.
 use Rattle.std.specs.Prelude.{◌≡◌, List, ℕ}
-use Rattle.std.specs.Borrow.{GName, MutBor}
+use Rattle.std.specs.Borrow.{Bor}
 use Rattle.units.specs.declared.Angle.{Angle}
 use Rattle.units.specs.declared.Time.{Time}
 use Rattle.plan.specs.declared.Plan.{Plan}
-use Rattle.normal.specs.declared.Normalised.{Normalised}
 use Rattle.normal.specs.NormalForm.{NormalPlanSays}
 use Rattle.state.specs.declared.State.{State}
 use Rattle.state.specs.declared.Reply.{Reply}
@@ -18,10 +17,8 @@ use Rattle.sensor.specs.Requests.{RequestSays}
 use Rattle.profile.specs.Profiles.{Scan}
 use Rattle.profile.specs.Revolutions.{RevolutionSays}
 use Rattle.flat.specs.Sent.{ProfileSays, MixedSays}
-use Rattle.reader.specs.declared.Reading.{Reading}
 use Rattle.reader.specs.Readings.{ReadSays}
 use Rattle.reader.specs.Stretches.{StretchRefusalSays, StretchSays}
-use Rattle.reader.specs.declared.MixedReading.{MixedReading}
 use Rattle.reader.specs.Mixed.{ReadMixedSays}
 use Rattle.reader.specs.MixedStretches.{MixedStretchRefusalSays, MixedStretchSays, ReflectorRefusalSays, ReflectorSays, ReflectorsSays}
 use Rattle.dialogue.specs.declared.Record.{Record}
@@ -47,20 +44,20 @@ pub record Determined : Type 1 where
   pub revolution : (s : State) (g : Scan) (before : List ℕ) → OneAnswer (λ (a : Reply × List ℕ). RevolutionSays s g before a.1 a.0)
   pub normal_plan : (p : Plan) (step : ℕ) → OneAnswer (NormalPlanSays p step)
   pub read : (ws : List ℕ) → OneAnswer (ReadSays ws)
-  -- the words that are lent, and where they stand; the name that the proofs give a reference is nobody's to choose
-  pub stretch : (words : MutBor (List ℕ)) (place : ℕ) (name : GName)
-      → OneAnswer (λ (a : List ℕ × (ℕ × ℕ)). StretchSays words place (record { ref_ptr = a.1; ghost_name = name; now = a.0 }))
+  -- the words that are lent, and where they stand
+  pub stretch : (words : Bor (List ℕ)) (place : ℕ)
+      → OneAnswer (λ (a : List ℕ × (ℕ × ℕ)). StretchSays words place (record { ref_ptr = a.1; now = a.0 }))
   pub stretch_refusal : (ws : List ℕ) (place : ℕ) → OneAnswer (StretchRefusalSays ws place)
   -- the reader of mixed profiles, with its stretches and its reflectors
   pub read_mixed : (ws : List ℕ) → OneAnswer (ReadMixedSays ws)
-  pub stretch_mixed : (words : MutBor (List ℕ)) (place : ℕ) (name : GName)
-      → OneAnswer (λ (a : List ℕ × (ℕ × ℕ)). MixedStretchSays words place (record { ref_ptr = a.1; ghost_name = name; now = a.0 }))
+  pub stretch_mixed : (words : Bor (List ℕ)) (place : ℕ)
+      → OneAnswer (λ (a : List ℕ × (ℕ × ℕ)). MixedStretchSays words place (record { ref_ptr = a.1; now = a.0 }))
   pub stretch_mixed_refusal : (ws : List ℕ) (place : ℕ) → OneAnswer (MixedStretchRefusalSays ws place)
-  pub reflector : (words : MutBor (List ℕ)) (place : ℕ) (name : GName)
-      → OneAnswer (λ (a : List ℕ × (ℕ × ℕ)). ReflectorSays words place (record { ref_ptr = a.1; ghost_name = name; now = a.0 }))
+  pub reflector : (words : Bor (List ℕ)) (place : ℕ)
+      → OneAnswer (λ (a : List ℕ × (ℕ × ℕ)). ReflectorSays words place (record { ref_ptr = a.1; now = a.0 }))
   pub reflector_refusal : (ws : List ℕ) (place : ℕ) → OneAnswer (ReflectorRefusalSays ws place)
-  pub all_reflectors : (words : MutBor (List ℕ)) (name : GName)
-      → OneAnswer (λ (a : List ℕ × (ℕ × ℕ)). ReflectorsSays words (record { ref_ptr = a.1; ghost_name = name; now = a.0 }))
+  pub all_reflectors : (words : Bor (List ℕ))
+      → OneAnswer (λ (a : List ℕ × (ℕ × ℕ)). ReflectorsSays words (record { ref_ptr = a.1; now = a.0 }))
   pub fresh : OneAnswer FreshSays
   pub profile : (plan : List ℕ) (step running mask : ℕ) (g : Scan) (before : List ℕ)
       → OneAnswer (λ (a : ℕ × List ℕ). ProfileSays plan step running mask g before a.1 a.0)

@@ -1,10 +1,9 @@
 -- Technical: no rule stands here. Answers that the contracts of the smaller public functions refuse, where no edit of the code says so.
 -- Proved in proofs/Refuted.antt.
 use Rattle.std.specs.Prelude.{◌≡◌, true, List, [], ◌∷◌, ℕ, length, get_or}
-use Rattle.std.specs.Borrow.{GName, MutBor}
+use Rattle.std.specs.Borrow.{Bor}
 use Rattle.words.specs.Plain.{ProductSays, WordAtSays}
 use Rattle.plan.specs.declared.Plan.{Plan}
-use Rattle.plan.specs.declared.Sector.{Sector}
 use Rattle.plan.specs.Sectors.{sector, entry_at, with_entry, filled}
 use Rattle.plan.specs.Validity.{multiples}
 use Rattle.normal.specs.declared.Normalised.{Normalised}
@@ -83,8 +82,8 @@ pub record WrongAnswers : Type 0 where
       → ⊥
   -- `stretch`: at the front of the words, and not where the sector's points are
   pub stretch_at_front :
-      (words : MutBor (List ℕ)) (name : GName) (part : List ℕ) → words.now ≡ turned_round
-      → StretchSays words 0 (record { ref_ptr = words.ref_ptr; ghost_name = name; now = part })
+      (words : Bor (List ℕ)) (part : List ℕ) → words.now ≡ turned_round
+      → StretchSays words 0 (record { ref_ptr = words.ref_ptr; now = part })
       → ⊥
   -- `stretch_refusal`: 17 where the words are refused; a place of S taken, of two sectors
   pub place_first : StretchRefusalSays [] 8 17 → ⊥

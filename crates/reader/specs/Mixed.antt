@@ -15,7 +15,6 @@ use Rattle.layout.specs.Layout.{profile_code}
 use Rattle.layout.specs.Mixed.{mixed_code, mixed_head_length}
 use Rattle.reader.specs.declared.SectorReading.{SectorReading}
 use Rattle.reader.specs.declared.MixedReading.{MixedReading}
-use Rattle.reader.specs.declared.MixedPart.{MixedPart}
 use Rattle.reader.specs.declared.MixedPart.TheVariants.{Contour, Count, Reflector}
 use Rattle.reader.specs.declared.MixedPlace.{MixedPlace}
 use Rattle.reader.specs.declared.MixedPlace.TheVariants.{Nowhere, At}

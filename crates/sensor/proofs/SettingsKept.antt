@@ -14,7 +14,6 @@ use Rattle.state.specs.Changes.{Part, is_one_of}
 use Rattle.state.specs.Changes as part
 use Rattle.sensor.specs.declared.Service.{Service}
 use Rattle.sensor.specs.Table.{row_of, services, named, service_of}
-use Rattle.sensor.specs.Requests.{request_of}
 use Rattle.sensor.specs.Demands.{asks_none, SettingsKept}
 use Rattle.sensor.proofs.Served.{only_these}
 

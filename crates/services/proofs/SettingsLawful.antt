@@ -13,7 +13,7 @@ use Rattle.state.specs.Changes.{Part, only_in}
 use Rattle.state.specs.Changes as part
 use Rattle.state.specs.Fields.{with_settings}
 use Rattle.state.proofs.SettingsParts.{InRanges}
-use Rattle.state.proofs.Parts.{Parts, settings_of_lem, settings_set}
+use Rattle.state.proofs.Parts.{settings_of_lem, settings_set}
 use Rattle.services.specs.Answers.{answer, longest}
 use Rattle.services.specs.Nav300.{value_said, set_rotate_direction, set_reflector_config, save_permanent}
 use Rattle.services.proofs.Lawful.{Responds, Fine, chosen, sets, stays}

@@ -1,4 +1,3 @@
-use Prim.Native.Nat.{◌-◌}
 use borrow.Author.Rules.{rules}
 use Rattle.dialogue.proofs.Decimals.{zero_passed, digit_met, last_met}
 use Rattle.dialogue.proofs.lines.leading.Goals as goal

@@ -1,4 +1,3 @@
-use Prim.Native.Nat.{◌-◌}
 use borrow.Author.Rules.{rules}
 use Rattle.words.proofs.Puts.{list_none}
 use Rattle.dialogue.proofs.Decimals.{digit_fits, digit_put, digits_put}

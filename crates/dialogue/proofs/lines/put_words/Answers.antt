@@ -1,4 +1,3 @@
-use Prim.Native.Nat.{◌-◌}
 use borrow.Author.Rules.{rules}
 use Rattle.words.proofs.Puts.{turns_none, turn_put, turns_all}
 use Rattle.dialogue.proofs.Parts.{hex_fits}

@@ -1,4 +1,3 @@
-use Prim.Native.Nat.{◌-◌}
 use borrow.Author.Rules.{rules}
 use Rattle.words.proofs.Puts.{turns_none}
 use Rattle.dialogue.proofs.Taking.{word_taken, words_taken}

@@ -1,5 +1,4 @@
 use mathlib.Core.Path.{refl}
-use Prim.Native.Nat.{◌-◌}
 use borrow.Author.Rules.{rules}
 use Rattle.words.proofs.Arrays.{long}
 use Rattle.plan.proofs.Walk.{at_zero, at_end, last_ends, last_more}

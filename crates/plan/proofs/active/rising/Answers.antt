@@ -1,4 +1,3 @@
-use Prim.Native.Nat.{◌-◌}
 use borrow.Author.Rules.{rules}
 use Rattle.words.proofs.Arrays.{long}
 use Rattle.plan.proofs.Walk.{at_zero, at_end, no_first, a_first, rises, falls, rising_ends}

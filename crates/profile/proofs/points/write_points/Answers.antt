@@ -1,5 +1,4 @@
 use mathlib.Core.Path.{refl}
-use Prim.Native.Nat.{◌-◌}
 use native.Mathlib.Omega.{arith}
 use borrow.Author.Rules.{rules}
 use Rattle.profile.proofs.Laps.{lap_begun, in_lap, lap_on, none_so_far, carried, one_on, taken_off}
@@ -34,19 +33,19 @@ loop-i-2-preserved c =
 
 pub loop-i-preserved-then-direction-ge-CIRCLE : goal.loop-i-preserved-then-direction-ge-CIRCLE
 loop-i-preserved-then-direction-ge-CIRCLE c = (
-      omega (arith, c.loop-i-2.invariant.1.below),
-      (λ step a shot by first. taken_off (c.loop-i-2.invariant.0 _ _ _ shot by (c.loop-i.invariant.1 _ _ shot by first)) (omega arith)),
-      omega arith,
-      search rules,
-    )
+  omega (arith, c.loop-i-2.invariant.1.below),
+  (λ step a shot by first. taken_off (c.loop-i-2.invariant.0 _ _ _ shot by (c.loop-i.invariant.1 _ _ shot by first)) (omega arith)),
+  omega arith,
+  search rules,
+)
 
 pub loop-i-preserved : goal.loop-i-preserved
 loop-i-preserved c = (
-      omega arith,
-      (λ step a shot by first. c.loop-i-2.invariant.0 _ _ _ shot by (c.loop-i.invariant.1 _ _ shot by first)),
-      omega arith,
-      search rules,
-    )
+  omega arith,
+  (λ step a shot by first. c.loop-i-2.invariant.0 _ _ _ shot by (c.loop-i.invariant.1 _ _ shot by first)),
+  omega arith,
+  search rules,
+)
 
 pub returns : goal.returns
 returns c =

@@ -1,4 +1,3 @@
-use Prim.Native.Nat.{◌-◌}
 use native.Mathlib.Omega.{arith}
 use borrow.Author.Rules.{rules}
 use Rattle.words.proofs.Puts.{turns_none}
@@ -37,12 +36,12 @@ overflow_add-at c =
 
 pub loop-k-preserved : goal.loop-k-preserved
 loop-k-preserved c = (
-      sector_more c.requires c.active_count-count.ensures c.loop-k.invariant.0 c.loop-k-test.true c.arc_at-arc.ensures
-          c.write_sector-n.ensures,
-      search rules,
-      search rules,
-      search rules,
-    )
+  sector_more c.requires c.active_count-count.ensures c.loop-k.invariant.0 c.loop-k-test.true c.arc_at-arc.ensures
+      c.write_sector-n.ensures,
+  search rules,
+  search rules,
+  search rules,
+)
 
 pub returns : goal.returns
 returns c = sectors_done c.requires c.active_count-count.ensures c.loop-k.invariant.0 c.loop-k.invariant.1 c.loop-k-test.false

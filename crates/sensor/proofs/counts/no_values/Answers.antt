@@ -1,4 +1,3 @@
-use Prim.Native.Nat.{◌-◌}
 use borrow.Author.Rules.{rules}
 use Rattle.sensor.proofs.WrongCounts.{code_laid, one_more, all_laid}
 use Rattle.sensor.proofs.counts.no_values.Goals as goal

@@ -1,4 +1,3 @@
-use Prim.Native.Nat.{◌-◌}
 use borrow.Author.Rules.{rules}
 use Rattle.words.proofs.Overs.{over_start, over_more, over_done}
 use Rattle.sensor.proofs.requests.write.Goals as goal
