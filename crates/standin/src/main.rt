@@ -4,8 +4,8 @@
 
 ghost use Rattle.std.specs.Prelude.{◌≤◌, length};
 
-use libc::{STDIN_FILENO, STDOUT_FILENO};
 use state::State;
+use std::io::{Read, Stdin, Stdout};
 
 // Where the talk stands: the sensor's state, and how many records were answered.
 #[derive(Clone, Copy)]
@@ -30,7 +30,7 @@ fn answer_block(start: Talk, bytes: &[u8], text: &mut [u8]) -> Block
     let mut taken: usize = 0;
     let mut filled: usize = 0;
     loop {
-        let number = std::num::wrapping_add_u64(talk.count, 1);
+        let number = talk.count.wrapping_add(1);
         let state = talk.state;
         let said = dialogue::answer(state, number, &bytes[taken..], &mut text[filled..]);
         if said.length == 0 {
@@ -65,14 +65,21 @@ fn move_down(bytes: &mut [u8], from: usize, have: usize) -> usize
     to
 }
 
-// What more the input has, behind the bytes that there are; how many there are then, no more than before where it has ended.
-fn read_more(bytes: &mut [u8], have: usize) -> usize
+// What more the input has, behind the bytes that there are; how many there are then, no more than before where it has ended. An input
+// that fails has ended.
+fn read_more(mut input: Stdin, bytes: &mut [u8], have: usize) -> usize
     requires { have ≤ length bytes.old }
     ensures { result ≤ length bytes.old }
 {
-    let rest = &mut bytes[have..];
-    let got = libc::read(STDIN_FILENO, rest);
-    have + io::count(got, rest)
+    match input.read(&mut bytes[have..]) {
+        Ok(got) => have + got,
+        Err(_) => have,
+    }
+}
+
+// The bytes over to the output. What it does not take is lost.
+fn write_out(output: Stdout, bytes: &[u8]) {
+    let _ = output.write_all(bytes);
 }
 
 // Where the talk stands, how many bytes are not taken yet, and whether the input has ended.
@@ -85,7 +92,14 @@ struct Turn {
 
 // The lines of every whole record that there is are written before anything more is read: more is read only where no line came of
 // the bytes, which then hold no whole record, since the text has room for every line.
-fn take_turn(talk: Talk, bytes: &mut [u8], have: usize, text: &mut [u8]) -> Turn
+fn take_turn(
+    input: Stdin,
+    output: Stdout,
+    talk: Talk,
+    bytes: &mut [u8],
+    have: usize,
+    text: &mut [u8],
+) -> Turn
     requires { have ≤ length bytes.old }
     ensures { result.have ≤ length bytes.old }
 {
@@ -93,14 +107,14 @@ fn take_turn(talk: Talk, bytes: &mut [u8], have: usize, text: &mut [u8]) -> Turn
     let filled = block.filled;
     let next = block.talk;
     if filled != 0 {
-        io::write_all(STDOUT_FILENO, &text[..filled]);
+        write_out(output, &text[..filled]);
         return Turn {
             talk: next,
             have: move_down(bytes, block.taken, have),
             ended: false,
         };
     }
-    let now = read_more(bytes, have);
+    let now = read_more(input, bytes, have);
     Turn {
         talk: next,
         have: now,
@@ -108,19 +122,19 @@ fn take_turn(talk: Talk, bytes: &mut [u8], have: usize, text: &mut [u8]) -> Turn
     }
 }
 
-fn main() {
-    io::write_all(STDOUT_FILENO, b"nr no n words\n");
-    let mut bytes = io::buffer();
-    let mut text = io::buffer();
+fn main(rt: HostRuntime) {
+    let input = rt.stdin();
+    let output = rt.stdout();
+    write_out(output, b"nr no n words\n");
+    let mut bytes = [0u8; 4096];
+    let mut text = [0u8; 4096];
     let mut talk = Talk {
         state: state::fresh(),
         count: 0,
     };
     let mut have: usize = 0;
-    let mut turns = u64::MAX;
-    while turns > 0 {
-        turns -= 1;
-        let done = take_turn(talk, &mut bytes, have, &mut text);
+    for _ in 0..u64::MAX {
+        let done = take_turn(input, output, talk, &mut bytes, have, &mut text);
         let next = done.talk;
         talk = next;
         have = done.have;
@@ -129,8 +143,8 @@ fn main() {
         }
     }
     if have == 0 {
-        io::write_all(STDOUT_FILENO, b"end\n");
+        write_out(output, b"end\n");
     } else {
-        io::write_all(STDOUT_FILENO, b"end short\n");
+        write_out(output, b"end short\n");
     }
 }

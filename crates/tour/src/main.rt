@@ -4,10 +4,31 @@
 
 ghost use Rattle.std.specs.Prelude.{◌≤◌, length};
 
-use libc::{STDIN_FILENO, STDOUT_FILENO};
+use std::io::{Read, Stdin, Stdout};
+
+// What the input has, from the front of the bytes on, until they are full or it ends; how many there are then. An input that fails
+// has ended.
+fn read_full(mut input: Stdin, bytes: &mut [u8]) -> usize
+    ensures { result ≤ length bytes.old }
+{
+    let mut have: usize = 0;
+    while have < bytes.len() {
+        match input.read(&mut bytes[have..]) {
+            Ok(0) => return have,
+            Ok(got) => have += got,
+            Err(_) => return have,
+        }
+    }
+    have
+}
+
+// The bytes over to the output. What it does not take is lost.
+fn write_out(output: Stdout, bytes: &[u8]) {
+    let _ = output.write_all(bytes);
+}
 
 // The records one after another; how many bytes they are.
-fn answer_all(bytes: &[u8]) -> usize
+fn answer_all(output: Stdout, bytes: &[u8]) -> usize
     ensures { result ≤ length bytes.now }
 {
     let mut state = state::fresh();
@@ -20,21 +41,22 @@ fn answer_all(bytes: &[u8]) -> usize
         if length == 0 {
             return at;
         }
-        io::write_all(STDOUT_FILENO, &text[..length]);
+        write_out(output, &text[..length]);
         let next = said.state;
         state = next;
-        number = std::num::wrapping_add_u64(number, 1);
+        number = number.wrapping_add(1);
         at += said.taken;
     }
 }
 
-fn main() {
-    io::write_all(STDOUT_FILENO, b"nr no n words\n");
-    let mut bytes = io::large_buffer();
-    let n = io::read_full(STDIN_FILENO, &mut bytes);
-    if answer_all(&bytes[..n]) == n {
-        io::write_all(STDOUT_FILENO, b"end\n");
+fn main(rt: HostRuntime) {
+    let output = rt.stdout();
+    write_out(output, b"nr no n words\n");
+    let mut bytes = [0u8; 65536];
+    let n = read_full(rt.stdin(), &mut bytes);
+    if answer_all(output, &bytes[..n]) == n {
+        write_out(output, b"end\n");
     } else {
-        io::write_all(STDOUT_FILENO, b"end short\n");
+        write_out(output, b"end short\n");
     }
 }

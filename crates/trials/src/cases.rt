@@ -39,7 +39,7 @@ fn fill(list: &mut [u16], first: u16, rise: u16) {
     let mut i: usize = 0;
     while i < list.len() {
         list[i] = w;
-        w = std::num::wrapping_add_u16(w, rise);
+        w = w.wrapping_add(rise);
         i += 1;
     }
 }

@@ -4,7 +4,7 @@
 
 ghost use Rattle.std.specs.Prelude.{◌<◌, ◌≤◌, length};
 
-use libc::{STDIN_FILENO, STDOUT_FILENO};
+use std::io::{Read, Stdin, Stdout};
 
 mod answers;
 mod calls;
@@ -13,13 +13,13 @@ mod readings;
 mod states;
 
 // The line of a case written: the words of its answer go into the one buffer, and the line into the other. Neither is cut, since the
-// buffers have room.
-fn write_answer(number: u64, case: &[u16], out: &mut [u16], text: &mut [u8]) {
+// buffers have room. What the output does not take is lost.
+fn write_answer(output: Stdout, number: u64, case: &[u16], out: &mut [u16], text: &mut [u8]) {
     let said = calls::answer(case, out);
     let count = answers::at_most(said.count, out.len());
     let line = dialogue::write_line(number, said.refusal, &out[0..count], text);
     let length = answers::at_most(line, text.len());
-    io::write_all(STDOUT_FILENO, &text[0..length]);
+    let _ = output.write_all(&text[0..length]);
 }
 
 // What the input has next: whether a whole case, and how many words it is.
@@ -29,7 +29,7 @@ struct Next {
     count: usize,
 }
 
-// The input has ended.
+// The input has ended, or fails.
 fn ended() -> Next
     ensures { result.count < 8192 }
 {
@@ -40,17 +40,17 @@ fn ended() -> Next
 }
 
 // The next case, its bytes into the one buffer and its words into the other.
-fn read_case(bytes: &mut [u8], words: &mut [u16]) -> Next
+fn read_case(mut input: Stdin, bytes: &mut [u8], words: &mut [u16]) -> Next
     requires { (16384 ≤ length bytes.old) × (8192 ≤ length words.old) }
     ensures { result.count < 8192 }
 {
     let mut first = [0u8; 2];
-    if io::read_full(STDIN_FILENO, &mut first) < 2 {
+    if input.read_exact(&mut first).is_err() {
         return ended();
     }
     let count = cases::length_of(cases::word(first[0], first[1]));
     let size = 2 * count;
-    if io::read_full(STDIN_FILENO, &mut bytes[0..size]) < size {
+    if input.read_exact(&mut bytes[0..size]).is_err() {
         return ended();
     }
     cases::take_words(bytes, count, words);
@@ -59,7 +59,7 @@ fn read_case(bytes: &mut [u8], words: &mut [u16]) -> Next
 
 // Every case and its line. There is room for the longest case, the longest answer, which is a count, a state and a buffer of 8191
 // words, and its line.
-fn main() {
+fn main(rt: HostRuntime) {
     let mut bytes = [0u8; 16384];
     let mut words = [0u16; 8192];
     let mut out = [0u16; 8242];
@@ -67,11 +67,11 @@ fn main() {
     let mut number: u64 = 0;
     while number < u64::MAX {
         number += 1;
-        let next = read_case(&mut bytes, &mut words);
+        let next = read_case(rt.stdin(), &mut bytes, &mut words);
         let count = next.count;
         if !next.whole {
             return;
         }
-        write_answer(number, &words[0..count], &mut out, &mut text);
+        write_answer(rt.stdout(), number, &words[0..count], &mut out, &mut text);
     }
 }

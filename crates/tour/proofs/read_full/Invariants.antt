@@ -1,0 +1,8 @@
+use Rattle.std.proofs.Common.{◌-◌, ◌≤◌, length}
+use Rattle.tour.proofs.read_full.Given as goal
+
+abbrev pub invariant-loop-have : goal.invariant-loop-have
+invariant-loop-have l = l.have ≤ length l.bytes
+
+abbrev pub decreases-loop-have : goal.decreases-loop-have
+decreases-loop-have l = length l.bytes - l.have
