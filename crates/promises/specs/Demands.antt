@@ -77,7 +77,7 @@ pub record Demand2 : Type 0 where
   -- the profile: its points are the run's measured shots, each one and no other; its length is the formula's, and never above the greatest
   pub points : PointsAreShots
   pub all_points : AllPoints
-  pub sent_length_lem : SentLength
+  pub sent_length : SentLength
   pub never_longer : NeverLonger
   -- and so of a mixed profile
   pub mixed_points : MixedPointsAreShots

@@ -2,10 +2,10 @@
 // line are is the library's; here is only the way from one block of bytes to the next (rule 7.10).
 #![tactic(auto)]
 
-ghost use Rattle.std.specs.Prelude.{◌≤◌, length};
+ghost use Rattle.std.specs.Prelude.{◌≤◌, length, IfOk};
 
 use state::State;
-use std::io::{Read, Stdin, Stdout};
+use std::io::{self, Read, Stdin, Stdout};
 
 // Where the talk stands: the sensor's state, and how many records were answered.
 #[derive(Clone, Copy)]
@@ -77,11 +77,6 @@ fn read_more(mut input: Stdin, bytes: &mut [u8], have: usize) -> usize
     }
 }
 
-// The bytes over to the output. What it does not take is lost.
-fn write_out(output: Stdout, bytes: &[u8]) {
-    let _ = output.write_all(bytes);
-}
-
 // Where the talk stands, how many bytes are not taken yet, and whether the input has ended.
 #[derive(Clone, Copy)]
 struct Turn {
@@ -91,7 +86,7 @@ struct Turn {
 }
 
 // The lines of every whole record that there is are written before anything more is read: more is read only where no line came of
-// the bytes, which then hold no whole record, since the text has room for every line.
+// the bytes, which then hold no whole record, since the text has room for every line. An output that fails ends the talk, with its error.
 fn take_turn(
     input: Stdin,
     output: Stdout,
@@ -99,33 +94,33 @@ fn take_turn(
     bytes: &mut [u8],
     have: usize,
     text: &mut [u8],
-) -> Turn
+) -> io::Result<Turn>
     requires { have ≤ length bytes.old }
-    ensures { result.have ≤ length bytes.old }
+    ensures { IfOk result (λ turn. turn.have ≤ length bytes.old) }
 {
     let block = answer_block(talk, &bytes[..have], text);
     let filled = block.filled;
     let next = block.talk;
     if filled != 0 {
-        write_out(output, &text[..filled]);
-        return Turn {
+        output.write_all(&text[..filled])?;
+        return Ok(Turn {
             talk: next,
             have: move_down(bytes, block.taken, have),
             ended: false,
-        };
+        });
     }
     let now = read_more(input, bytes, have);
-    Turn {
+    Ok(Turn {
         talk: next,
         have: now,
         ended: now == have,
-    }
+    })
 }
 
-fn main(rt: HostRuntime) {
+fn main(rt: HostRuntime) -> io::Result<()> {
     let input = rt.stdin();
     let output = rt.stdout();
-    write_out(output, b"nr no n words\n");
+    output.write_all(b"nr no n words\n")?;
     let mut bytes = [0u8; 4096];
     let mut text = [0u8; 4096];
     let mut talk = Talk {
@@ -134,7 +129,7 @@ fn main(rt: HostRuntime) {
     };
     let mut have: usize = 0;
     for _ in 0..u64::MAX {
-        let done = take_turn(input, output, talk, &mut bytes, have, &mut text);
+        let done = take_turn(input, output, talk, &mut bytes, have, &mut text)?;
         let next = done.talk;
         talk = next;
         have = done.have;
@@ -143,8 +138,8 @@ fn main(rt: HostRuntime) {
         }
     }
     if have == 0 {
-        write_out(output, b"end\n");
+        output.write_all(b"end\n")
     } else {
-        write_out(output, b"end short\n");
+        output.write_all(b"end short\n")
     }
 }

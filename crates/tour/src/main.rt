@@ -2,9 +2,9 @@
 // goes through every service in every mode and every refusal that a program can meet, and ends in a cut record.
 #![tactic(auto)]
 
-ghost use Rattle.std.specs.Prelude.{◌≤◌, length};
+ghost use Rattle.std.specs.Prelude.{◌≤◌, length, IfOk};
 
-use std::io::{Read, Stdin, Stdout};
+use std::io::{self, Read, Stdin, Stdout};
 
 // What the input has, from the front of the bytes on, until they are full or it ends; how many there are then. An input that fails
 // has ended.
@@ -22,14 +22,9 @@ fn read_full(mut input: Stdin, bytes: &mut [u8]) -> usize
     have
 }
 
-// The bytes over to the output. What it does not take is lost.
-fn write_out(output: Stdout, bytes: &[u8]) {
-    let _ = output.write_all(bytes);
-}
-
-// The records one after another; how many bytes they are.
-fn answer_all(output: Stdout, bytes: &[u8]) -> usize
-    ensures { result ≤ length bytes.now }
+// The records one after another; how many bytes they are. An output that fails ends it, with its error.
+fn answer_all(output: Stdout, bytes: &[u8]) -> io::Result<usize>
+    ensures { IfOk result (λ n. n ≤ length bytes.now) }
 {
     let mut state = state::fresh();
     let mut number: u64 = 1;
@@ -39,9 +34,9 @@ fn answer_all(output: Stdout, bytes: &[u8]) -> usize
         let said = dialogue::answer(state, number, &bytes[at..], &mut text);
         let length = said.length;
         if length == 0 {
-            return at;
+            return Ok(at);
         }
-        write_out(output, &text[..length]);
+        output.write_all(&text[..length])?;
         let next = said.state;
         state = next;
         number = number.wrapping_add(1);
@@ -49,14 +44,14 @@ fn answer_all(output: Stdout, bytes: &[u8]) -> usize
     }
 }
 
-fn main(rt: HostRuntime) {
+fn main(rt: HostRuntime) -> io::Result<()> {
     let output = rt.stdout();
-    write_out(output, b"nr no n words\n");
+    output.write_all(b"nr no n words\n")?;
     let mut bytes = [0u8; 65536];
     let n = read_full(rt.stdin(), &mut bytes);
-    if answer_all(output, &bytes[..n]) == n {
-        write_out(output, b"end\n");
+    if answer_all(output, &bytes[..n])? == n {
+        output.write_all(b"end\n")
     } else {
-        write_out(output, b"end short\n");
+        output.write_all(b"end short\n")
     }
 }

@@ -4,7 +4,7 @@
 
 ghost use Rattle.std.specs.Prelude.{◌<◌, ◌≤◌, length};
 
-use std::io::{Read, Stdin, Stdout};
+use std::io::{self, Read, Stdin, Stdout};
 
 mod answers;
 mod calls;
@@ -13,13 +13,19 @@ mod readings;
 mod states;
 
 // The line of a case written: the words of its answer go into the one buffer, and the line into the other. Neither is cut, since the
-// buffers have room. What the output does not take is lost.
-fn write_answer(output: Stdout, number: u64, case: &[u16], out: &mut [u16], text: &mut [u8]) {
+// buffers have room. An output that fails gives its error.
+fn write_answer(
+    output: Stdout,
+    number: u64,
+    case: &[u16],
+    out: &mut [u16],
+    text: &mut [u8],
+) -> io::Result<()> {
     let said = calls::answer(case, out);
     let count = answers::at_most(said.count, out.len());
     let line = dialogue::write_line(number, said.refusal, &out[0..count], text);
     let length = answers::at_most(line, text.len());
-    let _ = output.write_all(&text[0..length]);
+    output.write_all(&text[0..length])
 }
 
 // What the input has next: whether a whole case, and how many words it is.
@@ -59,7 +65,7 @@ fn read_case(mut input: Stdin, bytes: &mut [u8], words: &mut [u16]) -> Next
 
 // Every case and its line. There is room for the longest case, the longest answer, which is a count, a state and a buffer of 8191
 // words, and its line.
-fn main(rt: HostRuntime) {
+fn main(rt: HostRuntime) -> io::Result<()> {
     let mut bytes = [0u8; 16384];
     let mut words = [0u16; 8192];
     let mut out = [0u16; 8242];
@@ -70,8 +76,9 @@ fn main(rt: HostRuntime) {
         let next = read_case(rt.stdin(), &mut bytes, &mut words);
         let count = next.count;
         if !next.whole {
-            return;
+            return Ok(());
         }
-        write_answer(rt.stdout(), number, &words[0..count], &mut out, &mut text);
+        write_answer(rt.stdout(), number, &words[0..count], &mut out, &mut text)?;
     }
+    Ok(())
 }

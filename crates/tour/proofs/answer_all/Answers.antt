@@ -5,8 +5,8 @@ use Rattle.tour.proofs.answer_all.Goals as goal
 pub slice_bounds-text-end : goal.slice_bounds-text-end
 slice_bounds-text-end c = said_part _ _ _ _ _ _ c.answer-said.ensures
 
-pub slice_bounds-write_out-end : goal.slice_bounds-write_out-end
-slice_bounds-write_out-end c = said_lent _ _ _ _ _ _ c.answer-said.ensures
+pub slice_bounds-write_all-end : goal.slice_bounds-write_all-end
+slice_bounds-write_all-end c = said_lent _ _ _ _ _ _ c.answer-said.ensures
 
 pub overflow_add-at : goal.overflow_add-at
 overflow_add-at c =
