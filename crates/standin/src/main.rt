@@ -2,7 +2,7 @@
 // line are is the library's; here is only the way from one block of bytes to the next (rule 7.10).
 #![tactic(auto)]
 
-ghost use Rattle.std.specs.Prelude.{◌≤◌, length, IfOk};
+ghost use Rattle.std.specs.Prelude.{◌≡◌, ◌≤◌, length, IfOk, OnErr};
 
 use state::State;
 use std::io::{self, Read, Stdin, Stdout};
@@ -86,7 +86,8 @@ struct Turn {
 }
 
 // The lines of every whole record that there is are written before anything more is read: more is read only where no line came of
-// the bytes, which then hold no whole record, since the text has room for every line. An output that fails ends the talk, with its error.
+// the bytes, which then hold no whole record, since the text has room for every line. An output that fails ends the talk with its
+// error, and leaves the bytes as they were.
 fn take_turn(
     input: Stdin,
     output: Stdout,
@@ -96,7 +97,8 @@ fn take_turn(
     text: &mut [u8],
 ) -> io::Result<Turn>
     requires { have ≤ length bytes.old }
-    ensures { IfOk result (λ turn. turn.have ≤ length bytes.old) }
+    ensures ok { IfOk result (λ turn. turn.have ≤ length bytes.old) }
+    ensures err { OnErr result (bytes.new ≡ bytes.old) }
 {
     let block = answer_block(talk, &bytes[..have], text);
     let filled = block.filled;
