@@ -8,6 +8,7 @@ use layout::bits;
 use words::take_word;
 
 // The part at which so many words end, by the place behind the head, that behind the sectors, and how many of them were begun (rule 5.16).
+#[tactic(auto, using(crate::proofs::Ends::ends_in_head, crate::proofs::Ends::ends_in_sector, crate::proofs::Ends::ends_in_senstat))]
 fn part_missing(len: usize, head: usize, sectors: usize, begun: usize) -> Part
     requires { head ≤ len → 1 ≤ begun }
     ensures { result ≡ part_by len head sectors begun }
