@@ -51,7 +51,8 @@ abbrev one_if : ℕ → ℕ → ℕ
 one_if mask k = if bit mask k then 1 else 0
 
 -- `reflector_width`
-pub width_is : (m a b c d e : ℕ) → a ≡ one_if m bits.cartesian → b ≡ one_if m bits.polar → c ≡ one_if m bits.time → d ≡ one_if m bits.mean_echo
+pub width_is : (m a b c d e : ℕ) → a ≡ one_if m bits.cartesian → b ≡ one_if m bits.polar → c ≡ one_if m bits.time
+    → d ≡ one_if m bits.mean_echo
     → e ≡ one_if m bits.spots
     → 4 * (a + b) + (c + d + e) ≡ reflector_width m
 unfolding reflector_width

@@ -141,7 +141,8 @@ module _ (step : ℕ) (v : Divides step) where
         ∙ ap dir (shot_at step n k first 0 (omega arith) h)
         ∙ e
 
-    function_at : (k : ℕ) → k < revolution_shots step → (get_or (run step ss) k no_shot).function ≡ function_of (get_or (run step ss) k no_shot).direction ss
+    function_at : (k : ℕ) → k < revolution_shots step
+        → (get_or (run step ss) k no_shot).function ≡ function_of (get_or (run step ss) k no_shot).direction ss
     function_at k l = rw run_is (each_at no_shot k (all_towards (fine_of step w)) (omega (arith, long)))
 
     pub shot_is : (k : ℕ) → k < revolution_shots step

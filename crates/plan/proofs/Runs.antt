@@ -41,7 +41,8 @@ pub shots_length : (step n d f : ℕ) → length (shots step f d n) ≡ n
 shots_length step zero d f = refl
 shots_length step (suc n) d f = ap suc (shots_length step n (step_after step d) f)
 
-pub run_more : (step b : ℕ) (s : Sector) (ss : List Sector) → length (run_from step b (s ∷ ss)) ≡ shots_of step b s + length (run_from step (stop_of s) ss)
+pub run_more : (step b : ℕ) (s : Sector) (ss : List Sector)
+    → length (run_from step b (s ∷ ss)) ≡ shots_of step b s + length (run_from step (stop_of s) ss)
 run_more step b s ss =
     length-append (swept step b s) (run_from step (stop_of s) ss)
     ∙ ap (λ (n : ℕ). n + length (run_from step (stop_of s) ss)) (shots_length step _ (step_after step b) s.function)

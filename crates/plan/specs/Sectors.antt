@@ -1,5 +1,6 @@
 -- Rules, sections 2 and 3: angle steps, the entries of a plan and their ranges, the active sectors.
-use Rattle.std.specs.Prelude.{Bool, ◌&&◌, ◌||◌, List, [], ◌∷◌, ◌++◌, ℕ, ◌-◌, leb, eqb, length, get_or, set, replicate, if◌then◌else◌}
+use Rattle.std.specs.Prelude.{Bool, ◌&&◌, ◌||◌, List, [], ◌∷◌, ◌++◌, ℕ, ◌-◌, leb, eqb, length, get_or, set}
+use Rattle.std.specs.Prelude.{replicate, if◌then◌else◌}
 use Rattle.units.specs.Units.{angle}
 use Rattle.units.specs.Directions.{on_circle, divides_circle}
 use Rattle.words.specs.Lists.{every}

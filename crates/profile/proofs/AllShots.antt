@@ -60,7 +60,8 @@ measured_none mask step g f (suc n) k d e = rw e (measured_none mask step g f n 
 
 -- one sector: its points are the shots of function 3 of its sweep
 sector_shots : (mask step before shot : ℕ) (g : Scan) (s : Sector)
-    → points_of mask step g (arc_of step before shot s) ≡ measured_from mask g shot (shots step s.function (step_after step before) (shots_of step before s))
+    → points_of mask step g (arc_of step before shot s)
+    ≡ measured_from mask g shot (shots step s.function (step_after step before) (shots_of step before s))
 unfolding points_of in_turn
 sector_shots mask step before shot g s = of_function s.function (shots_of step before s) (eqb s.function 3) refl
   where

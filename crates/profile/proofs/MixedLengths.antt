@@ -49,7 +49,8 @@ reflector_long mask l from =
 pub reflectors_long : (mask : ℕ) (l : List ℕ) → length (reflectors_of mask l) ≡ reflectors_given l * reflector_width mask
 unfolding reflectors_of
 reflectors_long mask l =
-    turns_long (λ r. reflector_words mask l (r * reflector_length)) (reflector_width mask) (λ r. reflector_long mask l (r * reflector_length)) (reflectors_given l)
+    turns_long (λ r. reflector_words mask l (r * reflector_length)) (reflector_width mask) (λ r. reflector_long mask l (r * reflector_length))
+    (reflectors_given l)
 
 pub mixed_long : (s : State) (g : Scan) (high low sent counter : ℕ)
     → length (layout_mixed (mixed_of s g high low sent counter))

@@ -118,7 +118,8 @@ sectors_fit : (mask step rate : ℕ) (g : Scan) (number : ℕ) (l : List Arc) �
 sectors_fit mask step rate g number [] h = none
 sectors_fit mask step rate g number (a ∷ l) h = this (sector_fits mask step rate g number a h) (sectors_fit mask step rate g (suc number) l h)
 
-pub fields_fit : (s : State) (g : Scan) (mask layer sent counter : ℕ) → T (not (uncounted mask)) → Fits (with_layer layer (fields_of s g mask sent counter))
+pub fields_fit : (s : State) (g : Scan) (mask layer sent counter : ℕ) → T (not (uncounted mask))
+    → Fits (with_layer layer (fields_of s g mask sent counter))
 fields_fit s g mask layer sent counter h =
     record {
       sent = shaped (bit mask bits.sent) _;

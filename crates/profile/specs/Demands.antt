@@ -1,6 +1,7 @@
 -- What is promised of revolutions, as statements. The proofs stand in proofs/Revolved.antt, Carried.antt, AllShots.antt, Timed.antt and
 -- PointByPoint.antt.
-use Rattle.std.specs.Prelude.{◌≡◌, not, ◌||◌, List, [], ◌∷◌, ◌++◌, ℕ, suc, ◌+◌, ◌/◌, ◌%◌, ◌≤◌, ◌<◌, T, ltb, eqb, length, get_or, drop, if◌then◌else◌}
+use Rattle.std.specs.Prelude.{◌≡◌, not, ◌||◌, List, [], ◌∷◌, ◌++◌, ℕ, suc, ◌+◌, ◌/◌, ◌%◌, ◌≤◌}
+use Rattle.std.specs.Prelude.{◌<◌, T, ltb, eqb, length, get_or, drop, if◌then◌else◌}
 use Rattle.words.specs.Bits.{bit}
 use Rattle.words.specs.Lists.{total}
 use Rattle.words.specs.Words.{given_if, laid_all}

@@ -77,7 +77,9 @@ shut_out result s i j d k w =
 
 -- SET_SIGNAL to a sensor whose bit 2 of the port is set, and GET_STATUS
 requests : ShutOut request_of
-unfolding over request_of delivered request_refusal service_refusal outcome service_of in_range config_ok is_step entry_in_range plan_in_range lit_shots measure_error mask_ok
+unfolding
+    over request_of delivered request_refusal service_refusal outcome service_of in_range config_ok is_step entry_in_range plan_in_range
+    lit_shots measure_error mask_ok
 requests =
     shut_out request_of (with_port fresh_state 4) (0x0105 ∷ 1 ∷ []) (0x0102 ∷ []) (replicate 5 0) 1
     (record {

@@ -70,7 +70,8 @@ pub record StandInsShutOut : Type 0 where
   pub requests : ShutOut request_of
   pub revolutions : ShutOut revolution_of
   pub only_the_first_sector : (f : Call Scan) → Answering revolution_of f → OnlyTheFirstSector f → ⊥
-  pub reader_refuses_all : (f : List ℕ → Reading) → ((ws : List ℕ) → ReadSays ws (f ws)) → ((ws : List ℕ) → (f ws).refusal ≡ 0 → ⊥) → ⊥
+  pub reader_refuses_all :
+      (f : List ℕ → Reading) → ((ws : List ℕ) → ReadSays ws (f ws)) → ((ws : List ℕ) → (f ws).refusal ≡ 0 → ⊥) → ⊥
   pub one_reading_for_all : (f : List ℕ → Reading) → ((ws : List ℕ) → ReadSays ws (f ws)) → ((vs ws : List ℕ) → f vs ≡ f ws) → ⊥
   pub mixed_reader_refuses_all :
       (f : List ℕ → MixedReading) → ((ws : List ℕ) → ReadMixedSays ws (f ws)) → ((ws : List ℕ) → (f ws).refusal ≡ 0 → ⊥) → ⊥

@@ -213,7 +213,8 @@ four (x ∷ y ∷ []) h = absurd (omega arith)
 four (x ∷ y ∷ z ∷ []) h = absurd (omega arith)
 four (x ∷ y ∷ z ∷ v ∷ ws) h = refl
 
-pub head_front : (kind : Kind) (ws more : List ℕ) → (kind_numbers kind).first ≤ length ws → head_refusal_for kind (ws ++ more) ≡ head_refusal_for kind ws
+pub head_front : (kind : Kind) (ws more : List ℕ) → (kind_numbers kind).first ≤ length ws
+    → head_refusal_for kind (ws ++ more) ≡ head_refusal_for kind ws
 unfolding head_refusal mixed_head_refusal
 head_front Kind.Plain ws more h = rw (three ws h) (simp three_long)
   where

@@ -33,7 +33,8 @@ abbrev pub start_by : ℕ → ℕ → ℕ → ℕ
 start_by many place start = if ltb place many then start else 0
 
 module _ (words : Bor (List ℕ)) (many place start len : ℕ) (part : Bor (List ℕ)) where
-  pub part_lent : place < many → part.now ≡ take (start + len - start) (drop start words.now) → part.ref_ptr ≡ (words.ref_ptr.0, start * 2 + words.ref_ptr.1)
+  pub part_lent : place < many → part.now ≡ take (start + len - start) (drop start words.now)
+      → part.ref_ptr ≡ (words.ref_ptr.0, start * 2 + words.ref_ptr.1)
       → Lends words (lent_by many place start len words.now) (start_by many place start) part
   part_lent h e p = rw (lt-ltb place many h) (record { lends = e ∙ rw add-sub_cancel_left; stands = p })
 

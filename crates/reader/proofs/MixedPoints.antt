@@ -68,6 +68,7 @@ module _ (words : Bor (List ℕ)) (place : ℕ) (r : MixedReading) (is : r ≡ r
   unfolding mixed_stretch_of mixed_stretch_start
   mixed_points_lent h e p = rw (← is) (part_lent words r.count place here.start here.len part h e p)
 
-  pub mixed_nothing_lent : r.count ≤ place → part.now ≡ [] → part.ref_ptr ≡ (words.ref_ptr.0, 0 * 2 + words.ref_ptr.1) → MixedStretchSays words place part
+  pub mixed_nothing_lent : r.count ≤ place → part.now ≡ []
+      → part.ref_ptr ≡ (words.ref_ptr.0, 0 * 2 + words.ref_ptr.1) → MixedStretchSays words place part
   unfolding mixed_stretch_of mixed_stretch_start
   mixed_nothing_lent h e p = rw (← is) (none_lent words r.count place here.start here.len part h e p)

@@ -131,7 +131,8 @@ module _ (f : MixedFields) (w : MixedAcceptable f) (more : List ℕ) where
 
 pub mixed_reads_back : MixedReadsBack
 mixed_reads_back f w =
-    subst (λ (ws : List ℕ). ((read_mixed_of ws).refusal ≡ 0) × (mixed_fields_in ws (read_mixed_of ws) ≡ f)) (words f w [] ∙ append-nil (layout_mixed f))
+    subst (λ (ws : List ℕ). ((read_mixed_of ws).refusal ≡ 0) × (mixed_fields_in ws (read_mixed_of ws) ≡ f))
+    (words f w [] ∙ append-nil (layout_mixed f))
     (ap (λ (r : MixedReading). r.refusal) (read_whole f w []), ap (mixed_fields_in (W f w [])) (read_whole f w []) ∙ same_mixed f w [])
 
 over_read : (f : MixedFields) → MixedAcceptable f → (more : List ℕ) → T (some more) → (read_mixed_of (layout_mixed f ++ more)).refusal ≡ 16

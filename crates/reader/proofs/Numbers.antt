@@ -41,7 +41,8 @@ module _ (ws : List ℕ) where
   is_early : {r : Reading} → Outcome ws r → r.refusal ≡ 15 → EndEarly ws
   is_early (refused h) e = absurd (head_other Kind.Plain ws e)
   is_early (cut h p) e =
-      early_laid h (subst (ExtendedOf (body (mask_in ws) (count_in ws)) (drop head_length ws)) p ((body_extends (mask_in ws) (count_in ws)).extend ws head_length))
+      early_laid h (subst (ExtendedOf (body (mask_in ws) (count_in ws)) (drop head_length ws)) p
+      ((body_extends (mask_in ws) (count_in ws)).extend ws head_length))
   is_early (over s) e = absurd (omega arith)
   is_early (whole s) e = absurd (omega arith)
 

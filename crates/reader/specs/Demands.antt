@@ -1,6 +1,7 @@
 -- What is promised of the reader, as statements. The proofs stand in proofs/RoundTrip.antt, Numbers.antt, PointNumbers.antt, Standing.antt,
 -- PartsTile.antt, Parts.antt and, of the last, ByPlace.antt.
-use Rattle.std.specs.Prelude.{◌≡◌, ◌↔◌, ◌⊎◌, false, not, ◌&&◌, ◌||◌, List, [], ◌∷◌, ◌++◌, ℕ, ◌/◌, ◌%◌, ◌≤◌, ◌<◌, T, eqb, ltb, length, get_or}
+use Rattle.std.specs.Prelude.{◌≡◌, ◌↔◌, ◌⊎◌, false, not, ◌&&◌, ◌||◌, List, [], ◌∷◌, ◌++◌, ℕ, ◌/◌}
+use Rattle.std.specs.Prelude.{◌%◌, ◌≤◌, ◌<◌, T, eqb, ltb, length, get_or}
 use Rattle.words.specs.Bits.{bit}
 use Rattle.words.specs.Lists.{some, Each}
 use Rattle.words.specs.Numbers.{No, no, first_of}

@@ -1,6 +1,7 @@
 -- Rules 5.22, 5.23 and 5.25, and the numbers 12 to 16, 22 to 24 and 27 of a mixed profile: what its reader gives for a list of words. The
 -- contour is read by the format of a plain profile.
-use Rattle.std.specs.Prelude.{◌≡◌, Bool, not, ◌&&◌, List, [], ◌∷◌, ℕ, ◌*◌, ◌/◌, ◌%◌, leb, ltb, eqb, length, get_or, drop, replicate, if◌then◌else◌}
+use Rattle.std.specs.Prelude.{◌≡◌, Bool, not, ◌&&◌, List, [], ◌∷◌, ℕ, ◌*◌, ◌/◌, ◌%◌, leb, ltb, eqb, length}
+use Rattle.std.specs.Prelude.{get_or, drop, replicate, if◌then◌else◌}
 use Rattle.words.specs.declared.Word.{Word}
 use Rattle.words.specs.declared.Word.TheVariants.{Absent, Given}
 use Rattle.words.specs.Lists.{some}

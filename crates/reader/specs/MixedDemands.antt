@@ -1,6 +1,7 @@
 -- What is promised of the reader of mixed profiles, as statements: what specs/Demands.antt promises of the reader of plain ones, and of the
 -- reflectors what it promises of points.
-use Rattle.std.specs.Prelude.{◌≡◌, ◌↔◌, ◌⊎◌, Bool, false, not, ◌&&◌, ◌||◌, List, [], ◌∷◌, ◌++◌, ℕ, ◌+◌, ◌*◌, ◌/◌, ◌%◌, ◌≤◌, ◌<◌, T, eqb, ltb, length, get_or}
+use Rattle.std.specs.Prelude.{◌≡◌, ◌↔◌, ◌⊎◌, Bool, false, not, ◌&&◌, ◌||◌, List, [], ◌∷◌, ◌++◌, ℕ}
+use Rattle.std.specs.Prelude.{◌+◌, ◌*◌, ◌/◌, ◌%◌, ◌≤◌, ◌<◌, T, eqb, ltb, length, get_or}
 use Rattle.words.specs.Bits.{bit}
 use Rattle.words.specs.Lists.{some, Each}
 use Rattle.words.specs.Buffers.{in_turn}

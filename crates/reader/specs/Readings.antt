@@ -1,5 +1,6 @@
 -- Rules 5.10 to 5.14 and 5.16, and the numbers 12 to 16 and 22 to 24: what the reader gives for a list of words.
-use Rattle.std.specs.Prelude.{◌≡◌, Bool, not, ◌&&◌, List, [], ◌∷◌, ◌++◌, ℕ, ◌-◌, ◌/◌, ◌%◌, leb, eqb, length, get_or, drop, replicate, if◌then◌else◌}
+use Rattle.std.specs.Prelude.{◌≡◌, Bool, not, ◌&&◌, List, [], ◌∷◌, ◌++◌, ℕ, ◌-◌, ◌/◌, ◌%◌, leb, eqb}
+use Rattle.std.specs.Prelude.{length, get_or, drop, replicate, if◌then◌else◌}
 use Rattle.words.specs.declared.Word.{Word}
 use Rattle.words.specs.declared.Word.TheVariants.{Absent, Given}
 use Rattle.words.specs.Lists.{some}

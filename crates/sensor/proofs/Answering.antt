@@ -41,7 +41,8 @@ said_of_lem code v (inr e) = rw e
 
 module _ (r : Served) (s : State) (ws : List ℕ) (v : Service) (want code n : ℕ) (e0 : code ≡ get_or ws 0 0) (en : n ≡ response code % 65536)
     (ev : v ≡ service_of code) (ew : want ≡ (row_of v).words_in) where
-  pub miscount_said : (k : Miscount) → k ≡ (row_of v).miscount → (length ws ≡ want → ⊥) → Gives r (answer s (said_of k n)) → Gives r (outcome s ws)
+  pub miscount_said : (k : Miscount) → k ≡ (row_of v).miscount → (length ws ≡ want → ⊥)
+      → Gives r (answer s (said_of k n)) → Gives r (outcome s ws)
   unfolding outcome
   miscount_said k ek h g =
       rw (← e0, ← ev, ← ew, ne_eqb _ _ h, ← said_of_lem code v (rw ev (service_has code))) (rw (ek, en) at g)

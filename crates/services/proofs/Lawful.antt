@@ -142,7 +142,8 @@ unchecked Idle working step running n = tt
 unchecked Rotate working step running n = tt
 unchecked Measure working step running n = absurd (n refl)
 
-checked : (m : Mode) (working : Plan) (step running : ℕ) → m ≡ Measure → T (checks_ok m working step running) → measure_error working step running ≡ 0
+checked : (m : Mode) (working : Plan) (step running : ℕ) → m ≡ Measure
+    → T (checks_ok m working step running) → measure_error working step running ≡ 0
 checked m working step running e h =
     let c : T (eqb (measure_error working step running) 0) = rw e at h in
     eqb→eq (measure_error working step running) 0 c

@@ -34,7 +34,8 @@ module _ (r : Served) (s : State) (code threshold radius first second : ℕ) (a 
   both_good : (a && b) ≡ (threshold_ok threshold && radius_ok radius)
   both_good = both_are a b _ _ ea eb
 
-  pub reflector_stays : not (a && b) ≡ true → Gives r (answer s (code ∷ first ∷ second ∷ [])) → Gives r (set_reflector_config s code threshold radius)
+  pub reflector_stays : not (a && b) ≡ true → Gives r (answer s (code ∷ first ∷ second ∷ []))
+      → Gives r (set_reflector_config s code threshold radius)
   reflector_stays q g = rw (said_no both_good q) (rw (ef, es, ea, eb) at g)
 
   pub reflector_set : not (a && b) ≡ false → (t : State) → t ≡ with_settings s (with_reflector s.settings (reflector threshold radius))
