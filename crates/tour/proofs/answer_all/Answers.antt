@@ -1,4 +1,4 @@
-use Rattle.std.proofs.Common.{◌+◌, ◌≤◌, length, arith}
+use Rattle.std.proofs.Common.{arith}
 use Rattle.dialogue.proofs.Talking.{said_part, said_lent, taken_rest, taken_some}
 use Rattle.tour.proofs.answer_all.Goals as goal
 
@@ -14,9 +14,11 @@ overflow_add-at c =
 
 pub loop-output-smaller : goal.loop-output-smaller
 loop-output-smaller c =
-    let taken : c.loop-output.at + c.answer-said.result.taken ≤ length c.args.bytes.now =
-    taken_rest _ _ c.args.bytes.now c.loop-output.at _ _ _ c.answer-said.ensures c.loop-output.invariant in
-    omega (arith, taken_some _ _ _ _ _ _ c.answer-said.ensures c.if-length-eq0.false)
+    omega (
+      arith,
+      taken_rest _ _ c.args.bytes.now c.loop-output.at _ _ _ c.answer-said.ensures c.loop-output.invariant,
+      taken_some _ _ _ _ _ _ c.answer-said.ensures c.if-length-eq0.false,
+    )
 
 pub loop-output-preserved : goal.loop-output-preserved
 loop-output-preserved c = taken_rest _ _ c.args.bytes.now c.loop-output.at _ _ _ c.answer-said.ensures c.loop-output.invariant
