@@ -115,8 +115,7 @@ pub fn slackjib_profile(
 }
 
 // The mixed profile of one revolution with these reflectors, eleven words each, into the buffer that is lent; how many words it has, 0
-// where the call is refused (rule 5.21). The start time stands in front of the mask: so both structs of one number are among the first six
-// arguments, which go in registers on every processor.
+// where the call is refused (rule 5.21). Its arguments stand as `flat_c` hands them on.
 pub fn slackjib_mixed_profile(
     plan: &[u16],
     step: Angle,
