@@ -2,38 +2,30 @@
 use mathlib.Core.Path.{◌≡◌, refl, sym}
 use mathlib.Core.Bool.{Bool, true, false, not}
 use mathlib.Core.List.{List, [], ◌∷◌, ◌++◌}
-use Prim.Native.Nat.{ℕ, ◌+◌, ◌-◌, ◌*◌, ◌/◌, ◌%◌, ◌≤◌, ◌<◌}
+use Prim.Native.Nat.{ℕ, ◌+◌, ◌-◌, ◌*◌, ◌/◌, ◌≤◌, ◌<◌}
 use native.Mathlib.Omega.{arith}
 use lib.Dec.{leb}
 use lib.ListN.{length, get_or, length-append}
-use borrow.Author.Tests.{leb-true, le-leb, lt-leb}
+use borrow.Author.Tests.{leb-true, leb-false, le-leb, lt-leb}
+use Rattle.std.specs.Prelude.{Some, None}
 use Rattle.words.specs.Buffers.{Wrote, Put}
 use Rattle.words.proofs.Tests.{said_no, said_yes}
-use Rattle.words.proofs.Puts.{none_yet, room, and_put, put_first, put_then, turn_fits, turns_long}
-use Rattle.dialogue.specs.Lines.{glyph, digits, decimal, spaced_hex, hexes, line_of, fitting}
-
--- `put_hex`
-pub hex_put : (w : ℕ) {a b c d : ℕ} {d₀ d₁ d₂ d₃ d₄ d₅ : List ℕ} {at r₁ r₂ r₃ r₄ r₅ : ℕ}
-    → at + 5 ≤ length d₀ → Put (32 ∷ []) d₀ at d₁ r₁
-    → a ≡ glyph (w / 16 / 16 / 16 % 16) → Put (a ∷ []) d₁ r₁ d₂ r₂
-    → b ≡ glyph (w / 16 / 16 % 16) → Put (b ∷ []) d₂ r₂ d₃ r₃
-    → c ≡ glyph (w / 16 % 16) → Put (c ∷ []) d₃ r₃ d₄ r₄
-    → d ≡ glyph (w % 16) → Put (d ∷ []) d₄ r₄ d₅ r₅
-    → Put (spaced_hex w) d₀ at d₅ r₅
-unfolding spaced_hex digits
-hex_put w {d₀ = d₀} {at = at} room p ea pa eb pb ec pc ed pd =
-    let inside : at ≤ length d₀ = omega arith in
-    rw (← ea, ← eb, ← ec, ← ed) (put_then inside (put_then inside (put_then inside (put_then inside p pa) pb) pc) pd)
+use Rattle.words.proofs.Overs.{over_none}
+use Rattle.words.proofs.Puts.{room, and_put, put_first, put_then, turn_fits, turn_put, turns_long}
+use Rattle.dialogue.specs.Lines.{digits, decimal, spaced_hex, hexes, line_of, fitting, WriteLineSays}
 
 -- `put_words`
 hex_long : (w : ℕ) → length (spaced_hex w) ≡ 5
 unfolding spaced_hex digits
 hex_long w = refl
 
-pub hex_fits : (words d₀ d : List ℕ) (at k to : ℕ) → at + length (hexes words (length words)) ≤ length d₀
-    → Put (hexes words k) d₀ at d to → k < length words → to + 5 ≤ length d
-hex_fits words d₀ d at k to all so_far h =
-    rw hex_long at (turn_fits (λ i. spaced_hex (get_or words i 0)) (length words) all so_far h)
+module _ (words : List ℕ) (k : ℕ) {d₀ d : List ℕ} {at to : ℕ} (all : at + length (hexes words (length words)) ≤ length d₀)
+    (so_far : Put (hexes words k) d₀ at d to) (text : List ℕ) (e : text ≡ spaced_hex (get_or words k 0)) where
+  pub hex_fits : k < length words → to + length text ≤ length d
+  hex_fits h = rw e (turn_fits (λ i. spaced_hex (get_or words i 0)) (length words) all so_far h)
+
+  pub hex_put : {d' : List ℕ} {r : ℕ} → Put text d to d' r → Put (hexes words (k + 1)) d₀ at d' r
+  hex_put p = turn_put (λ i. spaced_hex (get_or words i 0)) (length words) all so_far (rw e at p)
 
 -- `put_spaced`
 pub spaced_put : {w : ℕ} {ws d₀ d₁ d₂ : List ℕ} {at r₁ r₂ : ℕ}
@@ -55,22 +47,28 @@ module _ (nr refusal : ℕ) (ws : List ℕ) where
   unfolding line_of
   sums = simp (length-append, words_long) (omega arith)
 
-  module _ (n a b c : ℕ) (ea : a ≡ length (decimal nr)) (eb : b ≡ length (decimal refusal)) (ec : c ≡ length (decimal (length ws))) where
-    pub too_short : n < a + b + c + 3 → false ≡ leb line n
-    too_short h = sym (lt-leb line n (omega (arith, sums)))
+  module _ (n a b c r : ℕ) (er : r ≡ refusal)
+      (ea : a ≡ length (decimal nr)) (eb : b ≡ length (decimal r)) (ec : c ≡ length (decimal (length ws))) where
+    fixed : line ≡ a + b + c + 3 + length ws * 5
+    fixed =
+        let same : length (decimal r) ≡ length (decimal refusal) = rw er in
+        omega (arith, sums)
 
-    module _ (h : a + b + c + 3 ≤ n) where
-      pub too_many : (n - (a + b + c + 3)) / 5 < length ws → false ≡ leb line n
-      too_many k = sym (lt-leb line n (omega (arith, sums)))
+    pub too_short : n < a + b + c + 3 → leb line n ≡ false
+    too_short h = lt-leb line n (omega (arith, fixed))
 
-      pub enough : length ws ≤ (n - (a + b + c + 3)) / 5 → true ≡ leb line n
-      enough k = sym (le-leb line n (omega (arith, sums)))
+    pub long_enough : a + b + c + 3 ≤ n → leb (length ws) ((n - (a + b + c + 3)) / 5) ≡ leb line n
+    long_enough h = go (leb (length ws) ((n - (a + b + c + 3)) / 5)) refl
+      where
+        go : (x : Bool) → leb (length ws) ((n - (a + b + c + 3)) / 5) ≡ x → x ≡ leb line n
+        go true e = let few = leb-true (length ws) _ e in sym (le-leb line n (omega (arith, fixed)))
+        go false e = let many = leb-false (length ws) _ e in sym (lt-leb line n (omega (arith, fixed)))
 
   -- `write_line`: no line; or each part in its place, and the line whole
   module _ (d₀ : List ℕ) (b : Bool) (e : b ≡ leb line (length d₀)) where
-    pub no_line : not b ≡ true → Wrote (fitting (line_of nr refusal ws) (length d₀)) d₀ d₀ 0
+    pub no_line : not b ≡ true → WriteLineSays nr refusal ws d₀ d₀ None
     unfolding fitting
-    no_line q = rw (said_no e q) (none_yet d₀)
+    no_line q = record { text = rw (said_no e q) (sym (over_none d₀)); said = rw (said_no e q) }
 
     module _ (q : not b ≡ false) where
       long : length (decimal nr) + length (decimal refusal) + length (decimal (length ws)) + 3 + length ws * 5 ≤ length d₀
@@ -79,11 +77,14 @@ module _ (nr refusal : ℕ) (ws : List ℕ) where
       pub number_fits : 0 + length (decimal nr) ≤ length d₀
       number_fits = omega (arith, long)
 
-      module _ {d₁ : List ℕ} {r₁ : ℕ} (p₁ : Put (decimal nr) d₀ 0 d₁ r₁) where
-        pub refusal_fits : r₁ + length (32 ∷ decimal refusal) ≤ length d₁
-        refusal_fits = room (put_first p₁) (32 ∷ decimal refusal) (omega (arith, long))
+      module _ {d₁ : List ℕ} {r₁ : ℕ} (p₁ : Put (decimal nr) d₀ 0 d₁ r₁) {r : ℕ} (er : r ≡ refusal) where
+        pub refusal_fits : r₁ + length (32 ∷ decimal r) ≤ length d₁
+        refusal_fits = rw er (room (put_first p₁) (32 ∷ decimal refusal) (omega (arith, long)))
 
-        module _ {d₂ : List ℕ} {r₂ : ℕ} (p₂ : Put (32 ∷ decimal refusal) d₁ r₁ d₂ r₂) where
+        module _ {d₂ : List ℕ} {r₂ : ℕ} (put₂ : Put (32 ∷ decimal r) d₁ r₁ d₂ r₂) where
+          p₂ : Put (32 ∷ decimal refusal) d₁ r₁ d₂ r₂
+          p₂ = rw er at put₂
+
           pub count_fits : r₂ + length (32 ∷ decimal (length ws)) ≤ length d₂
           count_fits = room (and_put (put_first p₁) p₂) (32 ∷ decimal (length ws)) (rw length-append (omega (arith, long)))
 
@@ -95,10 +96,11 @@ module _ (nr refusal : ℕ) (ws : List ℕ) where
             words_fit = room counted (hexes ws (length ws)) (simp (length-append, words_long) (omega (arith, long)))
 
             module _ {d₄ : List ℕ} {r₄ : ℕ} (p₄ : Put (hexes ws (length ws)) d₃ r₃ d₄ r₄) where
-              pub end_fits : r₄ < length d₄
+              pub end_fits : r₄ + 1 ≤ length d₄
               end_fits = omega (arith, room (and_put counted p₄) (10 ∷ []) (simp (length-append, words_long) (omega (arith, long))))
 
-              pub line_put : {d₅ : List ℕ} {r₅ : ℕ} → Put (10 ∷ []) d₄ r₄ d₅ r₅
-                  → Wrote (fitting (line_of nr refusal ws) (length d₀)) d₀ d₅ r₅
+              pub line_put : {d₅ : List ℕ} {r₅ : ℕ} → Put (10 ∷ []) d₄ r₄ d₅ r₅ → WriteLineSays nr refusal ws d₀ d₅ (Some r₅)
               unfolding fitting line_of
-              line_put p₅ = rw (said_yes e q) (and_put (and_put counted p₄) p₅)
+              line_put {r₅ = r₅} p₅ =
+                  let all = and_put (and_put counted p₄) p₅ in
+                  record { text = rw (said_yes e q) all.words; said = rw (said_yes e q, all.counted) }

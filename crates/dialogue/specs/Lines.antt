@@ -1,7 +1,8 @@
 -- Rules 7.10 and 7.11, the program: the line of a record, in ASCII. The running number, the number for no and how many words there are, in
 -- decimal; then each word in hex.
-use Rattle.std.specs.Prelude.{List, [], ◌∷◌, ◌++◌, ℕ, zero, suc, ◌+◌, ◌/◌, ◌%◌, leb, ltb, eqb, length, get_or, if◌then◌else◌}
-use Rattle.words.specs.Buffers.{Wrote, in_turn}
+use Rattle.std.specs.Prelude.{◌≡◌, List, [], ◌∷◌, ◌++◌, ℕ, zero, suc, ◌+◌, ◌/◌, ◌%◌, length, get_or}
+use Rattle.std.specs.Prelude.{leb, ltb, eqb, if◌then◌else◌, Option, Some, None}
+use Rattle.words.specs.Buffers.{over, in_turn}
 
 -- the character of a digit, 0 to 9 and A to F (rule 7.11)
 abbrev pub glyph : ℕ → ℕ
@@ -43,6 +44,8 @@ line_of nr refusal ws =
 unfoldable pub fitting : List ℕ → ℕ → List ℕ
 fitting line room = if leb (length line) room then line else []
 
--- what is promised of `write_line` (rule 7.11)
-abbrev pub WriteLineSays : ℕ → ℕ → List ℕ → List ℕ → List ℕ → ℕ → Type 0
-WriteLineSays nr refusal ws before after r = Wrote (fitting (line_of nr refusal ws) (length before)) before after r
+-- what is promised of `write_line`: the line over the front of the buffer, and its length, where the buffer has room for it; else nothing is
+-- written and nothing said (rule 7.11)
+pub record WriteLineSays (nr refusal : ℕ) (ws before after : List ℕ) (r : Option ℕ) : Type 0 where
+  pub text : after ≡ over (fitting (line_of nr refusal ws) (length before)) before
+  pub said : r ≡ (if leb (length (line_of nr refusal ws)) (length before) then Some (length (line_of nr refusal ws)) else None)

@@ -1,7 +1,7 @@
 -- Rules 7.10 and 7.11, the program: a record answered with its line. Its request is lent room for the longest answer.
-use Rattle.std.specs.Prelude.{◌≡◌, List, [], ℕ, ◌+◌, ◌*◌, length, if◌then◌else◌}
+use Rattle.std.specs.Prelude.{◌≡◌, List, [], ℕ, ◌+◌, ◌*◌, length, if◌then◌else◌, Option, Some, None}
 use Rattle.words.specs.Lists.{some}
-use Rattle.words.specs.Buffers.{Wrote}
+use Rattle.words.specs.Buffers.{over}
 use Rattle.state.specs.declared.State.{State}
 use Rattle.services.specs.Answers.{longest}
 use Rattle.sensor.specs.Requests.{request_of}
@@ -26,9 +26,15 @@ line_picked r line room = if (record_numbers r).whole then fitting line room els
 unfoldable pub line_at : State → ℕ → List ℕ → ℕ → List ℕ
 line_at s number bytes room = line_picked (record_of bytes) (line_for s number (record_words bytes)) room
 
--- what is promised of `answer`: the line over the front of the text, the next state and the record's bytes taken; where there is no line,
--- nothing is done (rules 7.10 and 7.11)
-pub record AnswerSays (s : State) (number : ℕ) (bytes before after : List ℕ) (r : Said) : Type 0 where
-  pub text : Wrote (line_at s number bytes (length before)) before after r.length
-  pub state : r.state ≡ (if some (line_at s number bytes (length before)) then (request_of s (record_words bytes) longest).reply.state else s)
-  pub taken : r.taken ≡ (if some (line_at s number bytes (length before)) then size_of (record_of bytes) else 0)
+-- what became of a record with that line: the next state, the record's bytes and the line's length; nothing where there is no line (rules
+-- 7.10 and 7.11)
+abbrev pub said_of : State → ℕ → List ℕ → Option Said
+said_of next taken line = if some line then Some (record { state = next; taken = taken; length = length line }) else None
+
+-- what is promised of `answer`: the line over the front of the text, and what became of the record; where there is no line, nothing is done
+-- (rules 7.10 and 7.11)
+pub record AnswerSays (s : State) (number : ℕ) (bytes before after : List ℕ) (r : Option Said) : Type 0 where
+  pub text : after ≡ over (line_at s number bytes (length before)) before
+  pub said :
+      r
+      ≡ said_of (request_of s (record_words bytes) longest).reply.state (size_of (record_of bytes)) (line_at s number bytes (length before))

@@ -11,7 +11,7 @@ pub use lines::write_line;
 pub use records::take_record;
 pub use talks::answer;
 
-// What stands at the front of some bytes: nothing, a record that their end cuts, or a whole record of so many words.
+// What stands at the front of some bytes: nothing, a record that their end cuts, or a whole record of so many words. Three cases, and no Option.
 #[derive(Clone, Copy)]
 pub enum Record {
     End,
@@ -19,7 +19,7 @@ pub enum Record {
     Whole(u8),
 }
 
-// What became of a record: the next state, how many bytes were taken, and how long its line is; both 0 where nothing was done.
+// What became of a record that was answered: the next state, how many bytes were taken, and how long its line is.
 #[derive(Clone, Copy)]
 pub struct Said {
     pub state: State,

@@ -1,33 +1,25 @@
 // A record: how many words it has, in one byte, and then these, the high byte of each in front (rule 7.10).
-ghost use Rattle.std.specs.Prelude.{◌≡◌, ◌+◌, ◌*◌, ◌<◌, ◌≤◌, length, drop};
+ghost use Rattle.std.specs.Prelude.{◌≡◌, ◌+◌, ◌*◌, ◌≤◌, length, drop};
 ghost use Rattle.words.specs.Buffers.{over, in_turn};
 ghost use Rattle.dialogue.specs.Records.{record_word, TakeRecordSays};
 
 use crate::Record;
 
-// The count that a byte holds.
-pub(crate) fn count(byte: u8) -> usize
-    ensures { (result ≡ byte) × (result < 256) }
-{
-    byte as usize
-}
-
 // The word of two bytes, high byte first.
 fn word(high: u8, low: u8) -> u16
     ensures { result ≡ high * 256 + low }
 {
-    high as u16 * 256 + low as u16
+    u16::from_be_bytes([high, low])
 }
 
-// The n words behind a record's count, over the front of the buffer.
+// The words of the bytes, over the front of the buffer.
 fn take_words(bytes: &[u8], n: usize, words: &mut [u16])
-    requires { (2 * n + 1 ≤ length bytes.now) × (n ≤ length words.old) }
-    ensures { words.new ≡ over (in_turn (record_word (drop 1 bytes.now)) n) words.old }
+    requires { (length bytes.now ≡ 2 * n) × (n ≤ length words.old) }
+    ensures { words.new ≡ over (in_turn (record_word bytes.now) n) words.old }
 {
-    let mut k: usize = 0;
-    while k < n {
-        words[k] = word(bytes[2 * k + 1], bytes[2 * k + 2]);
-        k += 1;
+    // Stays a count beside each pair: of words written through iter_mut and zip, the proof knows no value once the loop is over.
+    for (k, pair) in bytes.chunks_exact(2).enumerate() {
+        words[k] = word(pair[0], pair[1]);
     }
 }
 
@@ -35,14 +27,13 @@ fn take_words(bytes: &[u8], n: usize, words: &mut [u16])
 pub fn take_record(bytes: &[u8], words: &mut [u16; 255]) -> Record
     ensures { TakeRecordSays result bytes.now words.old words.new }
 {
-    if bytes.len() == 0 {
+    let Some((first, rest)) = bytes.split_first() else {
         return Record::End;
-    }
-    let byte = bytes[0];
-    let n = count(byte);
-    if bytes.len() - 1 < 2 * n {
+    };
+    let n = usize::from(*first);
+    if rest.len() < 2 * n {
         return Record::Cut;
     }
-    take_words(bytes, n, words);
-    Record::Whole(byte)
+    take_words(&rest[..2 * n], n, words);
+    Record::Whole(*first)
 }

@@ -1,70 +1,49 @@
 // One record of a talk, answered with its line (rule 7.10).
-ghost use Rattle.std.specs.Prelude.{◌≡◌};
+ghost use Rattle.std.specs.Prelude.{◌≤◌, length};
 ghost use Rattle.dialogue.specs.Talks.{AnswerSays};
 ghost use Rattle.dialogue.specs.Asked.{Replied};
 
 use crate::lines::write_line;
-use crate::records::{count, take_record};
+use crate::records::take_record;
 use crate::{Record, Said};
 use services::LONGEST;
 use state::State;
 
-// The next state, and the length of the line.
-#[derive(Clone, Copy)]
-struct Line {
-    state: State,
-    length: usize,
-}
-
-// The request answered, its line over the front of the text where it has room.
-fn answer_words(state: State, number: u64, words: &[u16], text: &mut [u8]) -> Line
-    ensures { Replied state number words.now text.old text.new result.state result.length }
+// The request of a record's words answered, its line over the front of the text; where that has no room, nothing is done.
+fn answer_words(state: State, number: u64, words: &[u16], text: &mut [u8]) -> Option<Said>
+    requires { length words.now ≤ 255 }
+    ensures { Replied state number words.now text.old text.new result }
 {
     let mut out = [0u16; LONGEST];
-    let reply = sensor::request(state, words, &mut out);
-    let count = reply.count;
-    let length = write_line(number, reply.refusal, &out[..count], text);
-    let next = reply.state;
-    Line {
-        state: next,
-        length,
-    }
-}
-
-// Nothing is done.
-fn nothing(state: State) -> Said
-    ensures { result ≡ record { state = state; taken = 0; length = 0 } }
-{
-    Said {
-        state,
-        taken: 0,
-        length: 0,
+    let taken = 1 + 2 * words.len();
+    match sensor::request(state, words, &mut out) {
+        Ok(reply) => {
+            let length = write_line(number, 0, &out[..reply.count], text)?;
+            Some(Said {
+                state: reply.state,
+                taken,
+                length,
+            })
+        }
+        Err(refusal) => {
+            let length = write_line(number, refusal.number(), &[], text)?;
+            Some(Said {
+                state,
+                taken,
+                length,
+            })
+        }
     }
 }
 
 // The record at the front of the bytes answered, its line over the front of the text. Where there is no whole record, or the text
 // has no room for its line, nothing is done.
-pub fn answer(state: State, number: u64, bytes: &[u8], text: &mut [u8]) -> Said
+pub fn answer(state: State, number: u64, bytes: &[u8], text: &mut [u8]) -> Option<Said>
     ensures { AnswerSays state number bytes.now text.old text.new result }
 {
     let mut words = [0u16; 255];
-    let record = take_record(bytes, &mut words);
-    match record {
-        Record::End => nothing(state),
-        Record::Cut => nothing(state),
-        Record::Whole(n) => {
-            let count = count(n);
-            let line = answer_words(state, number, &words[..count], text);
-            let length = line.length;
-            if length == 0 {
-                return nothing(state);
-            }
-            let next = line.state;
-            Said {
-                state: next,
-                taken: 1 + 2 * count,
-                length,
-            }
-        }
+    match take_record(bytes, &mut words) {
+        Record::Whole(n) => answer_words(state, number, &words[..usize::from(n)], text),
+        Record::End | Record::Cut => None,
     }
 }

@@ -1,1 +1,1 @@
-pub mod SentLaws
+pub mod Eight

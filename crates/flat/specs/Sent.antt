@@ -3,12 +3,12 @@ use Rattle.std.specs.Prelude.{◌≡◌, List, ℕ, length}
 use Rattle.words.specs.Buffers.{over}
 use Rattle.layout.specs.declared.Mask.{Mask}
 use Rattle.state.specs.Fresh.{measuring}
-use Rattle.state.specs.Replies.{Result}
+use Rattle.state.specs.Replies.{Effect}
 use Rattle.profile.specs.Profiles.{Scan}
 use Rattle.profile.specs.Revolutions.{revolution_of}
 use Rattle.flat.specs.Plans.{plan_of}
 
-pub record Sent (count : ℕ) (before after : List ℕ) (x : Result) : Type 0 where
+pub record Sent (count : ℕ) (before after : List ℕ) (x : Effect) : Type 0 where
   pub counted : count ≡ x.reply.count
   pub buffer : after ≡ over x.written before
 

@@ -1,23 +1,25 @@
 // The writer of profiles for programs in C or Rust, which have no state with enums to hand over.
 #![tactic(auto)]
 
-ghost use Rattle.std.specs.Prelude.{◌≡◌};
+ghost use Rattle.std.specs.Prelude.{◌≡◌, ◌<◌};
 ghost use Rattle.layout.specs.MixedMasks.{mask_from};
 ghost use Rattle.state.specs.Fresh.{measuring as Fresh·measuring};
-ghost use Rattle.profile.specs.Profiles.{scan_with, scan};
+ghost use Rattle.profile.specs.Profiles.{scan_of, scan_with, scan};
 ghost use Rattle.flat.specs.Plans.{entry_of, plan_of};
 ghost use Rattle.flat.specs.Sent.{SentBy, ProfileSays, MixedSays};
 
 use layout::{Kind, Mask};
 use plan::{Plan, Sector};
+use profile::Scan;
 use state::{Job, Mode, State};
 use units::{Angle, Time};
 
 // Entry k of a plan: its function and its stop are words 2k and 2k + 1, 0 where there are none (rule 5.9).
-fn entry_of(plan: &[u16], k: u8) -> Sector
+fn entry_of(plan: &[u16], k: usize) -> Sector
+    requires { k < 8 }
     ensures { result ≡ entry_of plan.now k }
 {
-    let at = 2 * k as usize;
+    let at = 2 * k;
     let function = words::word_at(plan, at);
     let stop = words::word_at(plan, at + 1);
     Sector {
@@ -30,20 +32,15 @@ fn entry_of(plan: &[u16], k: u8) -> Sector
 pub fn plan_of(plan: &[u16]) -> Plan
     ensures { result ≡ plan_of plan.now }
 {
-    let a = entry_of(plan, 0);
-    let b = entry_of(plan, 1);
-    let c = entry_of(plan, 2);
-    let d = entry_of(plan, 3);
-    let e = entry_of(plan, 4);
-    let f = entry_of(plan, 5);
-    let g = entry_of(plan, 6);
-    let h = entry_of(plan, 7);
-    Plan {
-        sectors: [a, b, c, d, e, f, g, h],
+    // by a loop: of `array::from_fn` no clause says that each call has the words that were captured
+    let mut sectors = [plan::unused(); 8];
+    for k in 0..8 {
+        sectors[k] = entry_of(plan, k);
     }
+    Plan { sectors }
 }
 
-// A sensor that measures with that plan, with a job of one profile (rules 5.9 and 5.21).
+// A sensor that measures with that plan, with a job of one profile (rules 5.9 and 5.21). Plan, step and speed stay apart, as C hands them over.
 fn measuring(plan: &[u16], step: Angle, running: u16, mask: Mask) -> State
     ensures { result ≡ Fresh·measuring (plan_of plan.now) step.0 running mask }
 {
@@ -69,19 +66,14 @@ fn one_profile(
     kind: Kind,
     high: u16,
     low: u16,
-    start: Time,
-    distances: &[u16],
-    echoes: &[u16],
-    reflectors: &[u16],
+    scan: Scan,
     out: &mut [u16],
 ) -> usize
-    ensures { SentBy plan.now step.0 running (mask_from kind high low)
-        (scan_with start.0 distances.now echoes.now reflectors.now) out.old out.new result }
+    ensures { SentBy plan.now step.0 running (mask_from kind high low) (scan_of scan.entry) out.old out.new result }
 {
     let mask = layout::mask_from(kind, high, low);
     let state = measuring(plan, step, running, mask);
-    let reply = profile::revolution(state, start, distances, echoes, reflectors, out);
-    reply.count
+    profile::revolution(state, scan, out).map_or(0, |reply| reply.count)
 }
 
 // The profile of one revolution into the buffer that is lent; how many words it has, 0 where the call is refused (rule 5.9).
@@ -98,20 +90,13 @@ pub fn slackjib_profile(
     ensures { ProfileSays plan.now step.0 running mask (scan start.0 distances.now echoes.now)
         out.old out.new result }
 {
-    let none = &distances[0..0];
-    one_profile(
-        plan,
-        step,
-        running,
-        Kind::Plain,
-        0,
-        mask,
+    let scan = Scan {
         start,
         distances,
         echoes,
-        none,
-        out,
-    )
+        reflectors: &[],
+    };
+    one_profile(plan, step, running, Kind::Plain, 0, mask, scan, out)
 }
 
 // The mixed profile of one revolution with these reflectors, eleven words each, into the buffer that is lent; how many words it has, 0
@@ -131,17 +116,11 @@ pub fn slackjib_mixed_profile(
     ensures { MixedSays plan.now step.0 running high low
         (scan_with start.0 distances.now echoes.now reflectors.now) out.old out.new result }
 {
-    one_profile(
-        plan,
-        step,
-        running,
-        Kind::Mixed,
-        high,
-        low,
+    let scan = Scan {
         start,
         distances,
         echoes,
         reflectors,
-        out,
-    )
+    };
+    one_profile(plan, step, running, Kind::Mixed, high, low, scan, out)
 }

@@ -6,12 +6,10 @@ use Prim.Native.Nat.{ℕ, ◌+◌, ◌*◌}
 use native.Mathlib.Nat.{zero-mul, suc-mul, add-mul}
 use native.Mathlib.Omega.{arith}
 use lib.ListN.{length, length-append}
-use Rattle.words.specs.declared.Word.{Word}
-use Rattle.words.specs.declared.Word.TheVariants.{Absent, Given}
-use Rattle.std.specs.Prelude.{if◌then◌else◌}
+use Rattle.std.specs.Prelude.{if◌then◌else◌, Option, Some, None, option_to_list}
 use Rattle.words.specs.Bits.{bit}
 use Rattle.words.specs.Lists.{Each, none, this, count, total}
-use Rattle.words.specs.Words.{words_of, number_of, Shaped, laid_all}
+use Rattle.words.specs.Words.{number_of, Shaped, laid_all}
 use Rattle.layout.specs.Bits as bits
 use Rattle.layout.specs.Masks.{point_width}
 use Rattle.layout.specs.Fields.{SectorFields}
@@ -19,11 +17,11 @@ use Rattle.layout.specs.Layout.{head_length, layout_sector, SectorFits}
 use Rattle.layout.specs.Lengths.{profile_length, LayoutLength}
 
 -- a word that is there exactly where it is selected
-pub word_length : (on : Bool) (w : Word) → Shaped on w → length (words_of w) ≡ (if on then 1 else 0)
-word_length true Absent h = absurd h
-word_length true (Given w) h = refl
-word_length false Absent h = refl
-word_length false (Given w) h = absurd h
+pub word_length : (on : Bool) (w : Option ℕ) → Shaped on w → length (option_to_list w) ≡ (if on then 1 else 0)
+word_length true None h = absurd h
+word_length true (Some w) h = refl
+word_length false None h = refl
+word_length false (Some w) h = absurd h
 
 -- lists that are a fixed number long, and so many times a width more
 all_length : {F : Type 0} (put : F → List ℕ) (points : F → ℕ) (fixed width : ℕ) {P : F → Type 0} {fs : List F}

@@ -5,17 +5,15 @@ use Prim.Native.Nat.{ℕ, ◌+◌, ◌*◌, ◌≤◌, ◌<◌}
 use native.Mathlib.Nat.{mul-le-mul}
 use native.Mathlib.Omega.{arith}
 use lib.ListN.{length, length-append}
-use Rattle.std.specs.Prelude.{if◌then◌else◌}
+use Rattle.std.specs.Prelude.{if◌then◌else◌, option_to_list}
 use Rattle.words.specs.Bits.{bit}
 use Rattle.words.specs.Lists.{count}
-use Rattle.words.specs.Words.{words_of}
 use Rattle.layout.specs.Bits as bits
 use Rattle.layout.specs.Masks.{point_width}
 use Rattle.layout.specs.Layout.{head, contour, layout}
 use Rattle.layout.specs.Lengths.{profile_length}
-use Rattle.layout.specs.declared.Mask.{Mask}
-use Rattle.layout.specs.MixedMasks.{mixed_number, reflector_width, most_reflectors}
-use Rattle.layout.specs.Mixed.{mixed_length, length_of, reflector_part, MixedLayoutLength, GreatestMixed}
+use Rattle.layout.specs.MixedMasks.{reflector_width, most_reflectors}
+use Rattle.layout.specs.Mixed.{mixed_length, reflector_part, MixedLayoutLength, GreatestMixed}
 use Rattle.layout.proofs.LayoutLengths.{word_length, layout_length}
 use Rattle.layout.proofs.GreatestLength.{count_most, two_most, greatest}
 
@@ -24,8 +22,8 @@ unfolding mixed_length
 mixed_layout_length f h =
     let c = f.contour in
     let plain : 3 + length (contour c) ≡ length (layout c) = sym (length-append (head c.mask (length c.sectors)) (contour c)) in
-    let all : length (contour c ++ reflector_part f) ≡ length (contour c) + (length (words_of f.count) + length f.reflectors) =
-    length-append (contour c) (reflector_part f) ∙ rw (length-append (words_of f.count) f.reflectors) in
+    let all : length (contour c ++ reflector_part f) ≡ length (contour c) + (length (option_to_list f.count) + length f.reflectors) =
+    length-append (contour c) (reflector_part f) ∙ rw (length-append (option_to_list f.count) f.reflectors) in
     omega (
       arith,
       plain,
@@ -74,12 +72,3 @@ pub mixed_is : (m s p n l w f a : ℕ) → l ≡ profile_length m s p → w ≡ 
     → l + 1 + a + f ≡ mixed_length m s p n
 unfolding mixed_length
 mixed_is m s p n l w f a el ew ef ea = rw (el, ea, ef, ew) (omega arith)
-
--- `length_of`
-module _ (mask : Mask) (s p k r : ℕ) where
-  pub plain_length : (word : ℕ) → mask ≡ Mask.Plain word → r ≡ profile_length word s p → r ≡ length_of mask s p k
-  plain_length word e h = rw e h
-
-  pub mixed_length_lem : (high low n : ℕ) → mask ≡ Mask.Mixed high low → n ≡ mixed_number high low → r ≡ mixed_length n s p k
-      → r ≡ length_of mask s p k
-  mixed_length_lem high low n e en h = rw (e, ← en) h

@@ -11,9 +11,7 @@ use borrow.Author.Tests.{eq-eqb, ne_eqb, lt-ltb, le-ltb, ltb-true, ltb-false}
 use Rattle.words.specs.Bits.{bit}
 use Rattle.words.proofs.Tests.{said_no, said_yes}
 use Rattle.layout.specs.Masks.{mask_ok}
-use Rattle.layout.specs.declared.Kind.{Kind}
-use Rattle.layout.specs.declared.Mask.{Mask}
-use Rattle.layout.specs.MixedMasks.{mixed_number, none_of, mixed_ok, mask_from, mask_number, kind_ok, admitted}
+use Rattle.layout.specs.MixedMasks.{none_of, mixed_ok}
 
 -- n bits from k on
 abbrev run : ℕ → ℕ → List ℕ
@@ -85,23 +83,3 @@ module _ (mask : ℕ) (plain : Bool) (ep : plain ≡ mask_ok mask) where
           go : (t : Bool) → ltb mask 8388608 ≡ t → ltb mask 262144 ≡ t && none_of (run 18 5) mask
           go true e = sym (run_clear 5 18 mask (ltb-true mask 8388608 e))
           go false e = le-ltb mask 262144 (let past = ltb-false mask 8388608 e in omega arith)
-
--- `kind_ok`
-pub of_kind : (mask : ℕ) (kind k : Kind) (r : Bool) → kind ≡ k → r ≡ kind_ok k mask → r ≡ kind_ok kind mask
-of_kind mask kind k r e h = rw e h
-
--- `admitted`
-module _ (mask : Mask) (r : Bool) where
-  pub plain_admitted : (word : ℕ) → mask ≡ Mask.Plain word → r ≡ mask_ok word → r ≡ admitted mask
-  plain_admitted word e h = rw e h
-
-  pub mixed_admitted : (high low n : ℕ) → mask ≡ Mask.Mixed high low → n ≡ mixed_number high low → r ≡ mixed_ok n → r ≡ admitted mask
-  mixed_admitted high low n e en h = rw (e, ← en) h
-
--- `mask_number`
-pub mixed_numbered : (mask : Mask) (n high low : ℕ) → mask ≡ Mask.Mixed high low → n ≡ mixed_number high low → n ≡ mask_number mask
-mixed_numbered mask n high low e h = rw e h
-
--- `mask_from`
-pub from_kind : (kind k : Kind) (high low : ℕ) → kind ≡ k → mask_from k high low ≡ mask_from kind high low
-from_kind kind k high low e = rw e

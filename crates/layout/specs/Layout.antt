@@ -1,8 +1,8 @@
 -- Rules, section 5: the order of a profile's words, once for the writer and the reader.
-use Rattle.std.specs.Prelude.{◌≡◌, not, List, [], ◌∷◌, ◌++◌, ℕ, ◌+◌, ◌*◌, ◌≤◌, T, length}
+use Rattle.std.specs.Prelude.{◌≡◌, not, List, [], ◌∷◌, ◌++◌, ℕ, ◌+◌, ◌*◌, ◌≤◌, T, length, option_to_list}
 use Rattle.words.specs.Bits.{bit}
 use Rattle.words.specs.Lists.{Each}
-use Rattle.words.specs.Words.{words_of, number_of, Shaped, laid_all}
+use Rattle.words.specs.Words.{number_of, Shaped, laid_all}
 use Rattle.layout.specs.Bits as bits
 use Rattle.layout.specs.Masks.{mask_ok, point_width, uncounted}
 use Rattle.layout.specs.Fields.{SectorFields, Fields}
@@ -25,10 +25,10 @@ head mask sectors = profile_code ∷ mask ∷ (one_layer + sectors) ∷ []
 
 -- the words of a sector before its points, and behind them (rule 5.5)
 abbrev pub opening : SectorFields → List ℕ
-opening s = words_of s.number ++ words_of s.step ++ words_of s.points ++ words_of s.tstart ++ words_of s.startdir
+opening s = option_to_list s.number ++ option_to_list s.step ++ option_to_list s.points ++ option_to_list s.tstart ++ option_to_list s.startdir
 
 abbrev pub closing : SectorFields → List ℕ
-closing s = words_of s.tend ++ words_of s.enddir
+closing s = option_to_list s.tend ++ option_to_list s.enddir
 
 -- one sector (rules 5.5 and 5.7)
 abbrev pub layout_sector : SectorFields → List ℕ
@@ -36,10 +36,10 @@ layout_sector s = opening s ++ s.body ++ closing s
 
 -- the words before the sectors that depend on bits, and those behind them (rule 5.5)
 abbrev pub front : Fields → List ℕ
-front f = words_of f.sent ++ words_of f.counter ++ words_of f.layer
+front f = option_to_list f.sent ++ option_to_list f.counter ++ option_to_list f.layer
 
 abbrev pub status : Fields → List ℕ
-status f = words_of f.high ++ words_of f.low
+status f = option_to_list f.high ++ option_to_list f.low
 
 -- all that depends on bits (rule 5.5)
 abbrev pub contour : Fields → List ℕ

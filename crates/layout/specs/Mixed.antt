@@ -1,10 +1,9 @@
 -- Rules 5.19 and 5.20: the order of a mixed profile's words, and its length. The contour is the one of a plain profile. The theorems stand
 -- in proofs/MixedLengths.antt.
-use Rattle.std.specs.Prelude.{◌≡◌, List, [], ◌∷◌, ◌++◌, ℕ, ◌+◌, ◌*◌, ◌≤◌, T, length}
+use Rattle.std.specs.Prelude.{◌≡◌, List, [], ◌∷◌, ◌++◌, ℕ, ◌+◌, ◌*◌, ◌≤◌, T, length, Option, option_to_list}
 use Rattle.words.specs.Bits.{bit}
 use Rattle.words.specs.Lists.{count}
-use Rattle.words.specs.declared.Word.{Word}
-use Rattle.words.specs.Words.{words_of, number_of, Shaped}
+use Rattle.words.specs.Words.{number_of, Shaped}
 use Rattle.layout.specs.Bits as bits
 use Rattle.layout.specs.declared.Kind.{Kind}
 use Rattle.layout.specs.declared.Mask.{Mask}
@@ -36,7 +35,7 @@ pub record MixedFields : Type 0 where
   pub high : ℕ
   pub low : ℕ
   pub contour : Fields
-  pub count : Word
+  pub count : Option ℕ
   pub reflectors : List ℕ
 
 -- the words that depend on no bit (rule 5.19)
@@ -45,7 +44,7 @@ mixed_head high low sectors = mixed_code ∷ high ∷ low ∷ (one_layer + secto
 
 -- the words behind the contour (rule 5.19)
 abbrev pub reflector_part : MixedFields → List ℕ
-reflector_part f = words_of f.count ++ f.reflectors
+reflector_part f = option_to_list f.count ++ f.reflectors
 
 -- a whole mixed profile (rule 5.19)
 abbrev pub layout_mixed : MixedFields → List ℕ

@@ -1,4 +1,5 @@
-// The bits of a mask by what they select: the same names as in the specs (rule 5.5).
+// The bits of a mask by what they select: the same names as in the specs (rule 5.5). Stay numbers, and no enum: by a bit's place the functions of
+// `words` are asked, which know no profile.
 
 // Once, before the sectors.
 pub const SENT: u32 = 0;

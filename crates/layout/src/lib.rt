@@ -42,14 +42,14 @@ pub const REFLECTOR: usize = 11;
 pub const MOST_REFLECTORS: usize = 64;
 
 // The two kinds of profile (rules 5.4 and 5.19).
-#[derive(Clone, Copy)]
+#[derive(Clone, Copy, PartialEq, Eq)]
 pub enum Kind {
     Plain,
     Mixed,
 }
 
 // The mask of a job: a plain one of one word, or a mixed one of two, the high word first (rules 2.7 and 2.11).
-#[derive(Clone, Copy)]
+#[derive(Clone, Copy, PartialEq, Eq)]
 pub enum Mask {
     Plain(u16),
     Mixed(u16, u16),

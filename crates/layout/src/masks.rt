@@ -7,26 +7,18 @@ use crate::bits;
 use words::has_bit;
 
 // A mask that a profile may have (rule 2.7).
+#[tactic(auto, unfolding(crate::specs::Masks::mask_ok))]
 pub fn mask_ok(mask: u32) -> bool
     ensures { result ≡ mask_ok mask }
 {
-    if mask == 0 {
-        return false;
-    }
-    if has_bit(mask, bits::RESERVED_LOW) {
-        return false;
-    }
-    !has_bit(mask, bits::RESERVED_HIGH)
+    mask != 0 && !has_bit(mask, bits::RESERVED_LOW) && !has_bit(mask, bits::RESERVED_HIGH)
 }
 
 // One where the bit is set, else none.
 pub(crate) fn one_if(mask: u32, k: u32) -> u16
     ensures { (result ≡ (if bit mask k then 1 else 0)) × (result ≤ 1) }
 {
-    if has_bit(mask, k) {
-        return 1;
-    }
-    0
+    u16::from(has_bit(mask, k))
 }
 
 // The words of one point (rule 5.6).
@@ -40,8 +32,5 @@ pub fn point_width(mask: u32) -> u16
 pub fn is_uncounted(mask: u32) -> bool
     ensures { result ≡ uncounted mask }
 {
-    if point_width(mask) == 0 {
-        return false;
-    }
-    !has_bit(mask, bits::POINTS)
+    point_width(mask) != 0 && !has_bit(mask, bits::POINTS)
 }

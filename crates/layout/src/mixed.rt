@@ -46,9 +46,16 @@ pub fn kind_ok(kind: Kind, mask: u32) -> bool
 pub fn admitted(mask: Mask) -> bool
     ensures { result ≡ MixedMasks·admitted mask }
 {
+    kind_ok(kind_of(mask), mask_number(mask))
+}
+
+// A mask's kind (rules 2.7 and 2.11).
+fn kind_of(mask: Mask) -> Kind
+    ensures { result ≡ kind_of mask }
+{
     match mask {
-        Mask::Plain(word) => mask_ok(word as u32),
-        Mask::Mixed(high, low) => mixed_ok(mixed_number(high, low)),
+        Mask::Plain(_) => Kind::Plain,
+        Mask::Mixed(_, _) => Kind::Mixed,
     }
 }
 
@@ -56,16 +63,7 @@ pub fn admitted(mask: Mask) -> bool
 pub fn is_of(kind: Kind, mask: Mask) -> bool
     ensures { result ≡ is_of kind mask }
 {
-    match kind {
-        Kind::Plain => match mask {
-            Mask::Plain(_) => true,
-            Mask::Mixed(_, _) => false,
-        },
-        Kind::Mixed => match mask {
-            Mask::Plain(_) => false,
-            Mask::Mixed(_, _) => true,
-        },
-    }
+    kind == kind_of(mask)
 }
 
 // The mask of a kind, from two words; a plain one has the low word alone (rules 2.7 and 2.11).
@@ -88,13 +86,13 @@ pub fn mask_number(mask: Mask) -> u32
     }
 }
 
-// The layer that a profile of a mask's kind names (rules 5.5 and 5.19).
+// The layer that a profile of a mask's kind names (rules 5.5 and 5.19). A match: it is a number of the kind, and no conversion of it.
 pub fn layer_of(mask: Mask) -> u16
     ensures { result ≡ (kind_numbers (kind_of mask)).layer }
 {
-    match mask {
-        Mask::Plain(_) => PLAIN_LAYER,
-        Mask::Mixed(_, _) => MIXED_LAYER,
+    match kind_of(mask) {
+        Kind::Plain => PLAIN_LAYER,
+        Kind::Mixed => MIXED_LAYER,
     }
 }
 

@@ -7,4 +7,4 @@ pub mod NormalRows
 pub mod Numbers
 -- The functions
 pub mod Joining
-pub mod Answers
+pub mod Saying

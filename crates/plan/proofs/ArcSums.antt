@@ -1,22 +1,23 @@
--- The arcs of a revolution: how many there are, how many shots each has, that their sums fit, and the loop of `lit_shots` that adds them.
-use mathlib.Core.Path.{◌≡◌, refl, ap}
+-- The arcs of a revolution: how many there are, how many shots each has, that their numbers fit, and the chain of `lit_shots` that
+-- adds them.
+use mathlib.Core.Path.{◌≡◌, refl, ap, ◌∙◌}
 use mathlib.Core.Bool.{Bool, true, false}
 use mathlib.Core.List.{List, [], ◌∷◌}
-use Prim.Native.Nat.{ℕ, zero, suc, ◌+◌, ◌-◌, ◌*◌, ◌≤◌, ◌<◌}
+use Prim.Native.Nat.{ℕ, zero, suc, ◌+◌, ◌*◌, ◌^◌, ◌≤◌, ◌<◌}
 use native.Mathlib.Omega.{arith}
 use lib.Dec.{eqb}
-use lib.ListN.{length, get_or, drop, drop_of_length-le}
-use Rattle.units.specs.declared.Angle.{Angle}
-use Rattle.units.specs.Directions.{circle, step_after, shots_to}
+use lib.ListN.{length, get_or}
+use Rattle.units.specs.Directions.{circle, step_after}
 use Rattle.units.proofs.ShotCounts.{few}
-use Rattle.std.specs.Prelude.{if◌then◌else◌}
-use Rattle.words.proofs.Arrays.{from_here}
+use Rattle.std.specs.Prelude.{Option, None, Some, if◌then◌else◌, slice_get, sum_by}
+use Rattle.std.specs.Option.{option_map, MatchOption}
+use Rattle.std.proofs.lemmas.List.Sums.{sum_by-cons}
 use Rattle.plan.specs.declared.Sector.{Sector}
 use Rattle.plan.specs.declared.Plan.{Plan}
 use Rattle.plan.specs.declared.Arc.{Arc}
 use Rattle.plan.specs.Sectors.{stop_of, active, active_of}
-use Rattle.plan.specs.Shots.{last_stop, shots_of, arc_of, arcs_from, arcs, no_arc, arc_at, shots_with}
-use Rattle.plan.specs.Checks.{is_lit, lit_shots}
+use Rattle.plan.specs.Shots.{last_stop, shots_of, arcs_from, arcs, no_arc, shots_with}
+use Rattle.plan.specs.Checks.{is_lit}
 
 -- no more sectors are active than there are
 pub active_length : (l : List Sector) → length (active l) ≤ length l
@@ -26,6 +27,10 @@ active_length (s ∷ ss) = go (eqb s.function 0) (active_length ss)
     go : (b : Bool) → length (active ss) ≤ length ss → length (if b then [] else s ∷ active ss) ≤ suc (length ss)
     go true h = omega arith
     go false h = omega arith
+
+-- of the eight entries of a plan, no more than eight
+pub count_fits : (l : List Sector) (n : ℕ) → length l ≡ 8 → n ≡ length (active l) → n ≤ 8
+count_fits l n len e = omega (arith, active_length l)
 
 -- an arc for each sector
 pub arcs_length : (step before shot : ℕ) (ss : List Sector) → length (arcs_from step before shot ss) ≡ length ss
@@ -38,56 +43,39 @@ arc_few step before shot [] k = omega arith
 arc_few step before shot (s ∷ ss) zero = few step (step_after step before) (stop_of s)
 arc_few step before shot (s ∷ ss) (suc k) = arc_few step (stop_of s) (shot + shots_of step before s) ss k
 
--- `arc_of`
-pub arc_is : (s : Sector) (step before shot shots points : ℕ) (first : Angle) → first.0 ≡ step_after step before → shots ≡ shots_of step before s
-    → points ≡ (if eqb s.function 3 then shots else 0)
-    → record { function = s.function; first = first; last = s.stop; shot = shot; shots = shots; points = points } ≡ arc_of step before shot s
-arc_is s step before shot shots points first e k p = rw (p, k, ← e)
+-- the numbers of the first shots, at most 8 times circle, fit 16 bits
+pub numbers_fit : (l ss : List Sector) → length l ≡ 8 → ss ≡ active l → 0 + length ss * circle ≤ 8 * circle
+numbers_fit l ss len e = omega (arith, rw (← e) at (active_length l))
 
--- `arc_at`, at the first entry
-pub arc_start : (l : List Sector) (step before place : ℕ) → before ≡ last_stop 0 (active l)
-    → get_or (arcs_from step before 0 (active l)) (place - 0) no_arc ≡ get_or (arcs step (active l)) place no_arc
-arc_start l step before place e =
-    let z : place - 0 ≡ place = omega arith in
-    rw (e, z)
+-- `arc_at`
+pub at_place : (as' : List Arc) (place : ℕ) (found : Option Arc) → option_map (λ a. a) found ≡ slice_get as' place
+    → (a : Arc) → MatchOption found (a ≡ no_arc) (λ b. a ≡ b) → a ≡ get_or as' place no_arc
+at_place [] k None e a m = m
+at_place [] k (Some b) e a m = absurd (cc)
+at_place (x ∷ xs) zero None e a m = absurd (cc)
+at_place (x ∷ xs) zero (Some b) e a m = cc
+at_place (x ∷ xs) (suc k) o e a m = at_place xs k o e a m
 
--- the shots before a sector, at most 8 times circle, fit 16 bits
-module _ (i shot k step before stop : ℕ) (h : shot ≤ i * circle) (e : k ≡ shots_to step (step_after step before) stop) where
-  pub shots_more : shot + k ≤ (i + 1) * circle
-  shots_more = omega (arith, few step (step_after step before) stop)
+-- the chain of `lit_shots`
+abbrev pub lit_of : Arc → ℕ
+lit_of a = if is_lit a.function then a.shots else 0
 
-  pub shots_fit : i < 8 → shot + k < 65536
-  shots_fit l = omega (arith, shots_more)
+pub lit_sum : (as' : List Arc) → sum_by lit_of as' ≡ shots_with is_lit as'
+lit_sum [] = refl
+lit_sum (a ∷ as') = sum_by-cons lit_of a as' ∙ ap (λ n. lit_of a + n) (lit_sum as')
 
 at_most : (b : Bool) (n most : ℕ) → n ≤ most → (if b then n else 0) ≤ most
 at_most true n most h = h
 at_most false n most h = omega arith
 
-pub count_fits : (l : List Sector) (n : ℕ) → length l ≡ 8 → n ≡ length (active l) → n ≤ 8
-count_fits l n len e = omega (arith, active_length l)
+lit_most : (step before shot : ℕ) (ss : List Sector) → shots_with is_lit (arcs_from step before shot ss) ≤ length ss * circle
+lit_most step before shot [] = omega arith
+lit_most step before shot (s ∷ ss) =
+    omega (
+      arith,
+      lit_most step (stop_of s) (shot + shots_of step before s) ss,
+      at_most (is_lit s.function) (shots_of step before s) circle (few step (step_after step before) (stop_of s)),
+    )
 
-module _ (p : Plan) (step k sum : ℕ) where
-  pub lit_start : 0 + shots_with is_lit (arcs step (active_of p)) ≡ lit_shots p step
-  unfolding lit_shots
-  lit_start = omega arith
-
-  pub lit_ends : (n : ℕ) → n ≡ length (active_of p)
-      → sum + shots_with is_lit (drop k (arcs step (active_of p))) ≡ lit_shots p step → n ≤ k → sum ≡ lit_shots p step
-  lit_ends n e inv h =
-      let len = arcs_length step (last_stop 0 (active_of p)) 0 (active_of p) in
-      omega (arith, rw (drop_of_length-le (arcs step (active_of p)) {i = k} (omega arith)) at inv)
-
-  module _ (a : Arc) (ea : a ≡ arc_at p step k) (r : ℕ) (er : r ≡ (if is_lit a.function then a.shots else 0)) where
-    pub lit_more : (n : ℕ) → n ≡ length (active_of p) → sum + shots_with is_lit (drop k (arcs step (active_of p))) ≡ lit_shots p step → k < n
-        → (sum + r) + shots_with is_lit (drop (k + 1) (arcs step (active_of p))) ≡ lit_shots p step
-    unfolding arc_at
-    lit_more n e inv h =
-        let len = arcs_length step (last_stop 0 (active_of p)) 0 (active_of p) in
-        omega (arith, rw ea at er, rw (from_here (arcs step (active_of p)) k no_arc (omega arith)) at inv)
-
-    pub lit_bound : sum ≤ k * circle → sum + r ≤ (k + 1) * circle
-    unfolding arc_at
-    lit_bound h = omega (arith, at_most (is_lit a.function) a.shots circle (rw ea (arc_few step _ 0 (active_of p) k)))
-
-    pub lit_fits : sum ≤ k * circle → (n : ℕ) → k < n → n ≤ 8 → sum + r < 65536
-    lit_fits h n l m = omega (arith, lit_bound h)
+pub lit_fits : (p : Plan) (step : ℕ) → length p.sectors ≡ 8 → sum_by lit_of (arcs step (active_of p)) < 2 ^ 16
+lit_fits p step len = omega (arith, lit_sum (arcs step (active_of p)), lit_most step (last_stop 0 (active_of p)) 0 (active_of p), active_length p.sectors)

@@ -24,13 +24,13 @@ module _ (step : ℕ) where
   head_grid : (s : Sector) (ss : List Sector) → T (every sector_ok (s ∷ ss)) → T (multiples step (s ∷ ss)) → Grid step (stop_of s)
   head_grid s ss k m =
       let a : T (on_circle (stop_of s)) = search (and_l, and_r) in
-      let e : T (is_multiple step (stop_of s)) = search (and_l, and_r) in
+      let e : T (is_multiple step (stop_of s)) = search and_l in
       record { whole = dvd_of_mod-eq-zero step (eqb→eq (stop_of s % step) 0 e); below = ltb-true (stop_of s) circle (is_true a) }
 
   fine_after : (b : ℕ) (ss : List Sector) → T (every sector_ok ss) → T (increases_from b ss) → T (multiples step ss) → Fine step (suc b) ss
   fine_after b [] k h m = done
   fine_after b (s ∷ ss) k h m =
-      more {s = s} (search (and_l, and_r)) (leb→le (suc b) (stop_of s) (search (and_l, and_r))) (head_grid s ss k m)
+      more {s = s} (search (and_l, and_r)) (leb→le (suc b) (stop_of s) (search and_l)) (head_grid s ss k m)
       (fine_after (stop_of s) ss (search (and_l, and_r)) (search (and_l, and_r)) (search (and_l, and_r)))
 
   fine : (ss : List Sector) → T (every sector_ok ss) → T (increases ss) → T (multiples step ss) → Fine step 0 ss

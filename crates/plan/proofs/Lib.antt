@@ -8,7 +8,6 @@ pub mod PlanRows
 pub mod EntrySet
 pub mod RangeValid
 -- The functions
-pub mod RangeTests
-pub mod Walk
+pub mod Erring
+pub mod Actives
 pub mod ArcSums
-pub mod Answers

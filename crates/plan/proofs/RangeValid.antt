@@ -59,5 +59,5 @@ valid_of p step speed eight h e =
     let r = t.rising in
     record {
       eight = eight;
-      valid = record { at_least_one = search (and_l, and_r); in_range = active_ok p.sectors h; increasing = search (and_l, and_r); whole_steps = t.whole };
+      valid = record { at_least_one = search and_l; in_range = active_ok p.sectors h; increasing = search and_r; whole_steps = t.whole };
     }

@@ -2,6 +2,7 @@
 pub mod Sectors
 pub mod Validity
 pub mod Shots
+pub mod ArcsLeft
 pub mod Checks
 pub mod Demands
 pub mod Figures

@@ -1,4 +1,4 @@
--- A profile of either kind: `put_head_by` and `put_end_by` by the kind of the mask; `write_by`, its head, its contour and its end, and what
+-- A profile of either kind: `put_head_by` by the kind of the mask; `write_by`, its head, its contour and its end, and what
 -- stands in the buffer when they are written.
 use mathlib.Core.Path.{◌≡◌, sym, ap, ◌∙◌}
 use mathlib.Core.List.{List, ◌++◌, append-nil}
@@ -6,34 +6,20 @@ use Prim.Native.Nat.{ℕ, ◌+◌, ◌≤◌}
 use native.Mathlib.Omega.{arith}
 use lib.ListN.{length, length-append}
 use Rattle.words.specs.Buffers.{Wrote, Put}
-use Rattle.words.proofs.Puts.{room, and_put, put_none}
+use Rattle.words.proofs.Puts.{room, and_put}
 use Rattle.layout.specs.declared.Mask.{Mask}
 use Rattle.layout.specs.MixedMasks.{mixed_number, mask_number}
-use Rattle.layout.specs.Fields.{Fields}
-use Rattle.layout.specs.Layout.{head_length, head, contour}
-use Rattle.layout.specs.Mixed.{mixed_head_length, mixed_head, length_of}
+use Rattle.layout.specs.Layout.{head, contour}
+use Rattle.layout.specs.Mixed.{mixed_head}
 use Rattle.plan.specs.Sectors.{active_of}
-use Rattle.plan.proofs.ArcSums.{count_fits}
+use Rattle.profile.proofs.PointSums.{count_fits}
 use Rattle.state.specs.declared.State.{State}
 use Rattle.profile.specs.Profiles.{Scan, fields_of}
-use Rattle.profile.specs.Mixed.{with_layer}
 use Rattle.profile.specs.Revolutions.{profile_by}
 use Rattle.profile.specs.Asked.{ContourAsked, ProfileAsked, contour_fields, reflector_part_of, head_by, layer_by, end_by}
 use Rattle.profile.proofs.ProfileLengths.{fields_many}
-use Rattle.profile.proofs.Alone.{alone, fields_alone, arcs_alone}
-
--- `length_by`
-pub by_numbers : (mask : Mask) (a b k n p r : ℕ) → n ≡ a → p ≡ b → r ≡ length_of mask n p k → r ≡ length_of mask a b k
-by_numbers mask a b k n p r en ep er = er ∙ rw (en, ep)
 
 -- `put_head_by`
-module _ (mask : Mask) (n size : ℕ) (h : (n ≤ 8) × (length (head_by mask n) ≤ size)) where
-  pub plain_head_room : {word : ℕ} → mask ≡ Mask.Plain word → (n ≤ 8) × (head_length ≤ size)
-  plain_head_room e = rw e at h
-
-  pub mixed_head_room : {high low : ℕ} → mask ≡ Mask.Mixed high low → (n ≤ 8) × (mixed_head_length ≤ size)
-  mixed_head_room e = rw e at h
-
 module _ (mask : Mask) (n : ℕ) {d₀ d : List ℕ} {r : ℕ} where
   pub plain_head : {word : ℕ} → mask ≡ Mask.Plain word → Wrote (head word n) d₀ d r → Wrote (head_by mask n) d₀ d r
   plain_head e w = rw e w
@@ -41,34 +27,17 @@ module _ (mask : Mask) (n : ℕ) {d₀ d : List ℕ} {r : ℕ} where
   pub mixed_head_lem : {high low : ℕ} → mask ≡ Mask.Mixed high low → Wrote (mixed_head high low n) d₀ d r → Wrote (head_by mask n) d₀ d r
   mixed_head_lem e w = rw e w
 
--- `put_end_by`
-module _ (mask : Mask) (l : List ℕ) (at : ℕ) where
-  pub no_end : {word : ℕ} {d : List ℕ} → mask ≡ Mask.Plain word → Put (end_by mask l) d at d at
-  no_end {d = d} e = rw e (put_none d at)
-
-  module _ {high low m : ℕ} (e : mask ≡ Mask.Mixed high low) (em : m ≡ mixed_number high low) where
-    pub end_room : (size : ℕ) → (at + length (end_by mask l) ≤ size) × (length l ≤ 704)
-        → (at + length (reflector_part_of m l) ≤ size) × (length l ≤ 704)
-    end_room size h = rw em (rw e at h)
-
-    pub mixed_end : {d d' : List ℕ} {r : ℕ} → Put (reflector_part_of m l) d at d' r → Put (end_by mask l) d at d' r
-    mixed_end p = rw (e, ← em) p
-
--- a profile is its head, its contour and its end, for which the reflectors are of no account but at the end
+-- a profile is its head, its contour and its end
 by_parts : (s : State) (g : Scan) (mask : Mask) (sent counter n : ℕ) → n ≡ length (active_of s.working)
     → profile_by s g mask sent counter
-    ≡ head_by mask n ++ contour (contour_fields s (alone g) (mask_number mask) (layer_by mask) sent counter) ++ end_by mask g.reflectors
+    ≡ head_by mask n ++ contour (contour_fields s g (mask_number mask) (layer_by mask) sent counter) ++ end_by mask g.reflectors
 by_parts s g (Mask.Plain word) sent counter n count =
     let many : length (fields_of s g word sent counter).sectors ≡ n = fields_many s g word sent counter ∙ sym count in
-    let same : contour (fields_of s g word sent counter) ≡ contour (fields_of s (alone g) word sent counter) =
-    ap contour (fields_alone s g word sent counter) in
-    (λ j. head word (many j) ++ same j) ∙ sym (append-nil _)
+    (λ j. head word (many j) ++ contour (fields_of s g word sent counter)) ∙ sym (append-nil _)
 by_parts s g (Mask.Mixed high low) sent counter n count =
     let k = mixed_number high low in
     let many : length (fields_of s g k sent counter).sectors ≡ n = fields_many s g k sent counter ∙ sym count in
-    let same : contour (contour_fields s g k 1 sent counter) ≡ contour (contour_fields s (alone g) k 1 sent counter) =
-    ap (λ (f : Fields). contour (with_layer 1 f)) (fields_alone s g k sent counter) in
-    (λ j. mixed_head high low (many j) ++ same j ++ reflector_part_of k g.reflectors)
+    (λ j. mixed_head high low (many j) ++ contour (contour_fields s g k 1 sent counter) ++ reflector_part_of k g.reflectors)
 
 -- `write_by`, with the number of sectors, the mask's number and the layer as the code has them
 module _ {s : State} {g : Scan} {mask : Mask} {sent counter : ℕ} {d₀ : List ℕ} {n m : ℕ}
@@ -77,7 +46,7 @@ module _ {s : State} {g : Scan} {mask : Mask} {sent counter : ℕ} {d₀ : List 
   end = end_by mask g.reflectors
 
   abbrev middle : ℕ → List ℕ
-  middle layer = contour (contour_fields s (alone g) m layer sent counter)
+  middle layer = contour (contour_fields s g m layer sent counter)
 
   pub few_sectors : n ≤ 8
   few_sectors = count_fits s.working.sectors n asked.eight count
@@ -95,11 +64,11 @@ module _ {s : State} {g : Scan} {mask : Mask} {sent counter : ℕ} {d₀ : List 
   head_asked = (few_sectors, omega (arith, fits))
 
   module _ {d₁ : List ℕ} {at₁ : ℕ} (begun : Wrote (head_by mask n) d₀ d₁ at₁) where
-    pub contour_asked : (layer : ℕ) → layer ≡ layer_by mask → ContourAsked s (alone g) m layer sent counter at₁ d₁
+    pub contour_asked : (layer : ℕ) → layer ≡ layer_by mask → ContourAsked s g m layer sent counter at₁ d₁
     contour_asked layer el =
         record {
           eight = asked.eight;
-          arcs_in = arcs_alone g asked.arcs_in;
+          arcs_in = asked.arcs_in;
           room = rw el (room begun (middle (layer_by mask)) (omega (arith, fits)));
         }
 

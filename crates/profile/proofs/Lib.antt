@@ -9,13 +9,10 @@ pub mod PointByPoint
 pub mod ProfileRows
 -- The functions
 pub mod PointSums
-pub mod Alone
-pub mod Selecting
 pub mod Laps
 pub mod Writing
 pub mod SectorTurns
 pub mod WholeProfile
 pub mod Reflecting
 pub mod ByMask
-pub mod Turning
 pub mod Sending

@@ -8,10 +8,10 @@ use native.Mathlib.Omega.{arith}
 use lib.Dec.{T, eqb}
 use lib.ListN.{length, length-append}
 use borrow.Author.Tests.{eqb-true}
-use Rattle.std.specs.Prelude.{if◌then◌else◌}
+use Rattle.std.specs.Prelude.{if◌then◌else◌, option_to_list}
 use Rattle.words.specs.Bits.{bit}
 use Rattle.words.specs.Lists.{Each, none, this, count, total}
-use Rattle.words.specs.Words.{given_if, words_of, number_of, Shaped, laid_all}
+use Rattle.words.specs.Words.{given_if, number_of, Shaped, laid_all}
 use Rattle.words.proofs.Puts.{turns_long}
 use Rattle.layout.specs.Bits as bits
 use Rattle.layout.specs.Masks.{point_width, uncounted}
@@ -28,7 +28,7 @@ use Rattle.profile.specs.Profiles.{Scan, point_at, points_of, sector_of, sectors
 use Rattle.profile.specs.Mixed.{with_layer}
 
 -- a word that is selected is one, another none
-pub one_word : (b : Bool) (w : ℕ) → length (words_of (given_if b w)) ≡ (if b then 1 else 0)
+pub one_word : (b : Bool) (w : ℕ) → length (option_to_list (given_if b w)) ≡ (if b then 1 else 0)
 one_word true w = refl
 one_word false w = refl
 
@@ -60,7 +60,7 @@ sectors_many : (mask step rate : ℕ) (g : Scan) (number : ℕ) (l : List Arc) �
 sectors_many mask step rate g number [] = refl
 sectors_many mask step rate g number (a ∷ l) = ap suc (sectors_many mask step rate g (suc number) l)
 
-two_words : (b : Bool) (v w : ℕ) → length (words_of (given_if b v)) + length (words_of (given_if b w)) ≡ (if b then 2 else 0)
+two_words : (b : Bool) (v w : ℕ) → length (option_to_list (given_if b v)) + length (option_to_list (given_if b w)) ≡ (if b then 2 else 0)
 two_words true v w = refl
 two_words false v w = refl
 

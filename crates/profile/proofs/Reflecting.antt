@@ -1,52 +1,99 @@
--- `put_reflectors`: a reflector a turn; and the four words of `put_mixed_head`.
-use mathlib.Core.Path.{◌≡◌}
-use mathlib.Core.List.{List}
-use Prim.Native.Nat.{ℕ, ◌+◌, ◌*◌, ◌≤◌, ◌<◌}
+-- `put_reflector` and `put_reflectors`: the words of one, and a reflector a turn.
+use mathlib.Core.Path.{◌≡◌, refl, sym, ap, ◌∙◌}
+use mathlib.Core.Bool.{Bool, true, false}
+use mathlib.Core.List.{List, ◌++◌, [], ◌∷◌}
+use Prim.Native.Nat.{ℕ, ◌+◌, ◌-◌, ◌*◌, ◌≤◌, ◌<◌}
 use native.Mathlib.Omega.{arith}
-use lib.ListN.{length, set, length-set}
-use Rattle.words.specs.Buffers.{Wrote, Put, in_turn}
-use Rattle.words.proofs.Puts.{none_yet, and_put, put_one, turn_fits, turn_put, turns_all}
-use Rattle.layout.specs.Layout.{one_layer}
+use lib.ListN.{length, get_or, take, drop, length-drop, length-append, get_or-append}
+use Rattle.std.proofs.lemmas.List.{get_or-drop, drop-drop}
+use lib.Seq.{drop-append_seam}
+use Rattle.std.specs.Prelude.{if◌then◌else◌, option_to_list}
+use Rattle.words.specs.Bits.{bit}
+use Rattle.words.specs.Words.{given_if}
+use Rattle.words.specs.Buffers.{Put, in_turn}
+use Rattle.words.proofs.Arrays.{from_here}
+use Rattle.words.proofs.Puts.{turn_fits, turn_put, turns_all}
+use Rattle.layout.specs.Bits as bits
 use Rattle.layout.specs.MixedMasks.{reflector_length}
-use Rattle.layout.specs.Mixed.{mixed_code, mixed_head_length, mixed_head}
-use Rattle.profile.specs.Mixed.{reflector_words, reflectors_given, reflectors_of}
+use Rattle.profile.specs.Points.{selected}
+use Rattle.profile.specs.Mixed.{dwords, reflector_words, reflectors_given, reflectors_of}
+use Rattle.profile.specs.Asked.{chosen}
 
 -- the words of one of a list
 abbrev pub one_of : ℕ → List ℕ → ℕ → List ℕ
 one_of mask l r = reflector_words mask l (r * reflector_length)
+
+-- four words of a list are two numbers of two words each
+four_words : (l : List ℕ) (from : ℕ) → from + 3 < length l
+    → take 4 (drop from l) ≡ get_or l from 0 ∷ get_or l (from + 1) 0 ∷ get_or l (from + 2) 0 ∷ get_or l (from + 2 + 1) 0 ∷ []
+four_words l from h =
+    let e : from + 1 + 1 ≡ from + 2 = omega arith in
+    let four = from_here l (from + 2 + 1) 0 (omega arith) in
+    rw (from_here l from 0 (omega arith), from_here l (from + 1) 0 (omega arith), e, from_here l (from + 2) 0 (omega arith), four) refl
+
+two_numbers : (mask k : ℕ) (l : List ℕ) (from : ℕ) → from + 3 < length l → chosen mask k (take 4 (drop from l)) ≡ dwords mask k l from
+two_numbers mask k l from h =
+    rw (four_words l from h) (go (bit mask k) (get_or l from 0) (get_or l (from + 1) 0) (get_or l (from + 2) 0) (get_or l (from + 2 + 1) 0))
+  where
+    go : (b : Bool) (p q r s : ℕ) → (if b then p ∷ q ∷ r ∷ s ∷ [] else [])
+        ≡ option_to_list (given_if b p) ++ option_to_list (given_if b q) ++ (option_to_list (given_if b r) ++ option_to_list (given_if b s))
+    go true p q r s = refl
+    go false p q r s = refl
+
+-- the parts of the eleven words of one
+pub by_parts : (mask : ℕ) (l : List ℕ) → length l ≡ reflector_length
+    → chosen mask bits.cartesian (take 4 l) ++ chosen mask bits.polar (take 4 (drop 4 l)) ++ selected mask bits.time (get_or l 8 0)
+    ++ selected mask bits.mean_echo (get_or l 9 0)
+    ++ selected mask bits.spots (get_or l 10 0)
+    ≡ reflector_words mask l 0
+by_parts mask l e = rw (two_numbers mask bits.cartesian l 0 (omega arith), two_numbers mask bits.polar l 4 (omega arith)) refl
 
 module _ (mask : ℕ) (l d₀ : List ℕ) (from : ℕ) (room : from + length (reflectors_of mask l) ≤ length d₀) where
   all_room : from + length (in_turn (one_of mask l) (reflectors_given l)) ≤ length d₀
   unfolding reflectors_of
   all_room = room
 
-  module _ (d : List ℕ) (r at n : ℕ) (so_far : Put (in_turn (one_of mask l) r) d₀ from d at) (en : n ≡ reflectors_given l) where
-    pub one_fits : r < n → at + length (one_of mask l r) ≤ length d
-    one_fits h = turn_fits (one_of mask l) (reflectors_given l) all_room so_far (omega arith)
+  module _ (r : ℕ) {d : List ℕ} {at : ℕ} (so_far : Put (in_turn (one_of mask l) r) d₀ from d at) where
+    module _ (x rest : List ℕ) (cut : drop (r * reflector_length) l ≡ x ++ rest) (eleven : length x ≡ reflector_length) where
+      left : length l - r * reflector_length ≡ reflector_length + length rest
+      left = sym (length-drop (r * reflector_length) l) ∙ ap length cut ∙ length-append x rest ∙ rw eleven refl
 
-    pub one_there : r < n → r * reflector_length + 10 < length l
-    one_there h = omega arith
+      pub one_there : r < reflectors_given l
+      one_there = omega (arith, left)
 
-    pub one_more : r < n → {d' : List ℕ} {q : ℕ} → Put (one_of mask l r) d at d' q → Put (in_turn (one_of mask l) (r + 1)) d₀ from d' q
-    one_more h p = turn_put (one_of mask l) (reflectors_given l) all_room so_far p
+      word : (k n : ℕ) → k < reflector_length → n ≡ r * reflector_length + k → get_or x k 0 ≡ get_or l n 0
+      word k n h e = sym (get_or-append x rest 0 k (omega (arith, eleven))) ∙ rw (← cut) (rw e (get_or-drop (r * reflector_length) l k 0))
 
-    pub all_put : r ≤ n → n ≤ r → Put (reflectors_of mask l) d₀ from d at
+      same : reflector_words mask x 0 ≡ one_of mask l r
+      same =
+          rw (
+            word 0 (r * reflector_length) (omega arith) (omega arith),
+            word 1 (r * reflector_length + 1) (omega arith) refl,
+            word 2 (r * reflector_length + 2) (omega arith) refl,
+            word 3 (r * reflector_length + 2 + 1) (omega arith) (omega arith),
+            word 4 (r * reflector_length + 4) (omega arith) refl,
+            word 5 (r * reflector_length + 4 + 1) (omega arith) (omega arith),
+            word 6 (r * reflector_length + 4 + 2) (omega arith) (omega arith),
+            word 7 (r * reflector_length + 4 + 2 + 1) (omega arith) (omega arith),
+            word 8 (r * reflector_length + 8) (omega arith) refl,
+            word 9 (r * reflector_length + 9) (omega arith) refl,
+            word 10 (r * reflector_length + 10) (omega arith) refl,
+          )
+          refl
+
+      pub one_fits : at + length (reflector_words mask x 0) ≤ length d
+      one_fits = rw same (turn_fits (one_of mask l) (reflectors_given l) all_room so_far one_there)
+
+      pub one_more : {d' : List ℕ} {q : ℕ} → Put (reflector_words mask x 0) d at d' q → Put (in_turn (one_of mask l) (r + 1)) d₀ from d' q
+      one_more p = turn_put (one_of mask l) (reflectors_given l) all_room so_far (rw same at p)
+
+      pub rest_on : rest ≡ drop ((r + 1) * reflector_length) l
+      rest_on =
+          let e : r * reflector_length + reflector_length ≡ (r + 1) * reflector_length = omega arith in
+          sym (drop-append_seam x rest) ∙ rw (eleven, ← cut, drop-drop, e) refl
+
+    pub all_put : r ≤ reflectors_given l → length (drop (r * reflector_length) l) < reflector_length → Put (reflectors_of mask l) d₀ from d at
     unfolding reflectors_of
-    all_put h k = turns_all (one_of mask l) (reflectors_given l) all_room so_far (omega arith) (omega arith)
-
--- `put_mixed_head`
-module _ (d : List ℕ) (v w : ℕ) (h : mixed_head_length ≤ length d) where
-  pub second_fits : 1 < length (set d 0 v)
-  second_fits = rw length-set (omega arith)
-
-  pub third_fits : 2 < length (set (set d 0 v) 1 w)
-  third_fits = rw (length-set, length-set) (omega arith)
-
-pub head_put : (high low sectors : ℕ) (d : List ℕ) → mixed_head_length ≤ length d
-    → Wrote (mixed_head high low sectors) d (set (set (set (set d 0 mixed_code) 1 high) 2 low) 3 (one_layer + sectors)) mixed_head_length
-head_put high low sectors d h =
-    let one = put_one d 0 mixed_code (omega arith) in
-    let two = put_one (set d 0 mixed_code) 1 high (rw length-set (omega arith)) in
-    let three = put_one (set (set d 0 mixed_code) 1 high) 2 low (rw (length-set, length-set) (omega arith)) in
-    let four = put_one (set (set (set d 0 mixed_code) 1 high) 2 low) 3 (one_layer + sectors) (rw (length-set, length-set, length-set) (omega arith)) in
-    and_put (and_put (and_put (and_put (none_yet d) one) two) three) four
+    all_put h k =
+        let e = length-drop (r * reflector_length) l in
+        turns_all (one_of mask l) (reflectors_given l) all_room so_far h (omega (arith, rw e at k))

@@ -17,7 +17,7 @@ use Rattle.state.specs.declared.Job.{Job}
 use Rattle.state.specs.declared.Job.TheVariants.{Absent, Counted, Endless}
 use Rattle.state.specs.Fields.{with_drive}
 use Rattle.state.specs.Ranges.{is_measure, job_ok, in_range}
-use Rattle.state.specs.Replies.{Result, refused, delivered, Unchanged}
+use Rattle.state.specs.Replies.{Effect, refused, delivered, Unchanged}
 use Rattle.state.proofs.Delivery.{refused_unchanged, done, delivered_by, delivered_number}
 use Rattle.state.proofs.Parts.{parts, whole, drive_set, counter_set}
 use Rattle.profile.specs.Profiles.{Scan}
@@ -25,7 +25,7 @@ use Rattle.profile.specs.Revolutions.{risen, job_after, revolved, lists_fit, ref
 use Rattle.profile.specs.Demands.{RefusalsChangeNothing, RefusalsExactly, RangesKept}
 
 -- what holds of every refusal and of the outcome holds of the revolution
-pub revolution_by : (P : Result → Type 0) (s : State) (g : Scan) (room : ℕ) → ((n : ℕ) → (n ≡ 0 → ⊥) → P (refused s n))
+pub revolution_by : (P : Effect → Type 0) (s : State) (g : Scan) (room : ℕ) → ((n : ℕ) → (n ≡ 0 → ⊥) → P (refused s n))
     → P (done (revolved s g)) → P (revolution_of s g room)
 unfolding revolution_of
 revolution_by P s g room h k = go (eqb (revolution_refusal s g) 0) refl

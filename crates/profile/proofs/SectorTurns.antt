@@ -1,5 +1,5 @@
 -- The loop of `write_sectors`: a sector a turn, each into the rest of the buffer.
-use mathlib.Core.Path.{◌≡◌, refl, sym, ◌∙◌}
+use mathlib.Core.Path.{◌≡◌, refl, sym, ap, ◌∙◌}
 use mathlib.Core.List.{List, [], ◌∷◌, ◌++◌}
 use Prim.Native.Nat.{ℕ, suc, ◌+◌, ◌-◌, ◌≤◌, ◌<◌}
 use native.Mathlib.Nat.{add-zero, zero-add, add-suc, suc-add}
@@ -7,6 +7,7 @@ use native.Mathlib.Omega.{arith}
 use lib.ListN.{length, get_or, take, drop, length-take, length-drop}
 use Rattle.words.specs.Words.{laid_all}
 use Rattle.words.specs.Buffers.{in_turn, Wrote, Put}
+use Rattle.words.proofs.Arrays.{from_here}
 use Rattle.words.proofs.Each.{each_at}
 use Rattle.words.proofs.Puts.{turn_first, turn_fits, turn_put, turns_all, lent_put}
 use Rattle.layout.specs.Layout.{layout_sector}
@@ -14,7 +15,7 @@ use Rattle.plan.specs.declared.Arc.{Arc}
 use Rattle.plan.specs.declared.Plan.{Plan}
 use Rattle.plan.specs.Sectors.{active_of}
 use Rattle.plan.specs.Shots.{last_stop, arcs, no_arc, arc_at}
-use Rattle.plan.proofs.ArcSums.{arcs_length}
+use Rattle.plan.proofs.ArcSums.{active_length, arcs_length}
 use Rattle.profile.specs.Profiles.{Scan, sector_of, sectors_of}
 use Rattle.profile.specs.Asked.{sectors_words, SectorAsked, SectorsAsked}
 
@@ -31,6 +32,29 @@ laid_turns mask step rate g f n (a ∷ l) h =
 -- the words of the sector at a place
 abbrev pub sector_words : ℕ → ℕ → ℕ → Scan → Plan → ℕ → List ℕ
 sector_words mask step rate g p j = layout_sector (sector_of mask step rate g j (arc_at p step j))
+
+-- there are at most eight arcs
+pub few_arcs : (p : Plan) (step : ℕ) → length p.sectors ≡ 8 → length (arcs step (active_of p)) ≤ 8
+few_arcs p step len = omega (arith, arcs_length step (last_stop 0 (active_of p)) 0 (active_of p), active_length p.sectors)
+
+-- the arc of a place, and the others behind it, where the arcs from that place on are these
+pub record ArcHere (p : Plan) (step k : ℕ) (a : Arc) (rest : List Arc) : Type 0 where
+  pub active : k < length (active_of p)
+  pub here : a ≡ arc_at p step k
+  pub behind : drop (k + 1) (arcs step (active_of p)) ≡ rest
+
+pub arc_found : (p : Plan) (step k : ℕ) {a : Arc} {rest : List Arc} → drop k (arcs step (active_of p)) ≡ a ∷ rest → ArcHere p step k a rest
+unfolding arc_at
+arc_found p step k {a} {rest} cut =
+    let left : k < length (arcs step (active_of p)) =
+    let e = sym (length-drop k (arcs step (active_of p))) ∙ ap length cut in omega arith in
+    let same : a ∷ rest ≡ get_or (arcs step (active_of p)) k no_arc ∷ drop (k + 1) (arcs step (active_of p)) =
+    sym cut ∙ from_here (arcs step (active_of p)) k no_arc left in
+    record {
+      active = rw (← arcs_length step (last_stop 0 (active_of p)) 0 (active_of p)) left;
+      here = ap (λ (l : List Arc). get_or l 0 no_arc) same;
+      behind = sym (ap (λ (l : List Arc). drop 1 l) same);
+    }
 
 module _ {mask step rate : ℕ} {g : Scan} {p : Plan} {from : ℕ} {d₀ : List ℕ} (asked : SectorsAsked mask step rate g p from d₀)
     {n : ℕ} (en : n ≡ length (active_of p)) where
@@ -71,6 +95,9 @@ module _ {mask step rate : ℕ} {g : Scan} {p : Plan} {from : ℕ} {d₀ : List 
             (take to d ++ (part ++ drop (length d - to) (drop to d))) (to + m)
         sector_more = turn_put (sector_words mask step rate g p) n all_room so_far (lent_put behind_sectors (rw ea at w))
 
-  pub sectors_done : {d : List ℕ} {k to : ℕ} → Put (in_turn (sector_words mask step rate g p) k) d₀ from d to → k ≤ n → n ≤ k
+  pub sectors_done : {d : List ℕ} {k to : ℕ} → Put (in_turn (sector_words mask step rate g p) k) d₀ from d to → k ≤ n
+      → drop k (arcs step (active_of p)) ≡ []
       → Put (sectors_words mask step rate g p) d₀ from d to
-  sectors_done so_far h l = rw laid (turns_all (sector_words mask step rate g p) n all_room so_far h l)
+  sectors_done {k = k} so_far h none_left =
+      let l : length (arcs step (active_of p)) - k ≡ 0 = sym (length-drop k (arcs step (active_of p))) ∙ ap length none_left in
+      rw laid (turns_all (sector_words mask step rate g p) n all_room so_far h (omega (arith, many, l)))

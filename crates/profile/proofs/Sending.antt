@@ -7,12 +7,11 @@ use native.Mathlib.Nat.{div-le_self}
 use native.Mathlib.Omega.{arith}
 use lib.Dec.{T, eqb, leb, leb→le, eqb→eq}
 use lib.ListN.{length}
-use borrow.Author.Tests.{eq-eqb, ne_eqb}
-use Rattle.std.specs.Prelude.{if◌then◌else◌}
+use Rattle.std.specs.Prelude.{if◌then◌else◌, Result, Err}
 use Rattle.words.specs.Lists.{Each, none, this, total}
 use Rattle.words.specs.Buffers.{Wrote}
 use Rattle.words.proofs.Overs.{over_none}
-use Rattle.words.proofs.Tests.{and_l, and_r, said_no, said_yes}
+use Rattle.words.proofs.Tests.{and_l, and_r}
 use Rattle.units.specs.Directions.{circle, revolution_shots}
 use Rattle.layout.specs.declared.Mask.{Mask}
 use Rattle.plan.specs.declared.Sector.{Sector}
@@ -24,14 +23,16 @@ use Rattle.state.specs.declared.Mode.{Mode}
 use Rattle.state.specs.declared.Job.{Job}
 use Rattle.state.specs.declared.Job.TheVariants.{Absent, Counted, Endless}
 use Rattle.state.specs.declared.Reply.{Reply}
+use Rattle.state.specs.declared.Refusal.{Refusal}
+use Rattle.state.specs.declared.Refusal.TheVariants.{NoRoom}
 use Rattle.state.specs.Jobs.{mask_of, is_job}
 use Rattle.state.specs.Ranges.{is_measure, job_ok, in_range}
-use Rattle.state.specs.Replies.{delivered, Answered}
+use Rattle.state.specs.Replies.{refusal_number, delivered, Answered}
 use Rattle.state.proofs.Parts.{parts}
 use Rattle.state.proofs.Measuring.{measures}
-use Rattle.state.proofs.Delivery.{reply, is_refused_lem, no_room, has_room}
-use Rattle.profile.specs.Profiles.{Scan, scan_with}
-use Rattle.profile.specs.Mixed.{reflectors_given}
+use Rattle.state.proofs.HandedLaws.{refuses as is_number}
+use Rattle.state.proofs.Delivery.{served, is_refused_lem, no_room, has_room}
+use Rattle.profile.specs.Profiles.{Scan}
 use Rattle.profile.specs.Revolutions.{risen, sent_after, turned, profile_by, profile_of, revolved, lists_fit, reflectors_fit}
 use Rattle.profile.specs.Revolutions.{revolution_refusal, revolution_of}
 use Rattle.profile.specs.Demands.{length_by}
@@ -69,10 +70,6 @@ pub by_long : (s : State) (g : Scan) (mask : Mask) (sent counter : ℕ) → leng
 by_long s g (Mask.Plain word) sent counter = profile_long s g word sent counter
 by_long s g (Mask.Mixed high low) sent counter = mixed_long s g high low sent counter
 
--- the number of reflectors is a word
-pub given_fits : (l : List ℕ) → length l ≤ 704 → reflectors_given l < 65536
-given_fits l h = omega arith
-
 -- `send`
 module _ {s : State} {g : Scan} (asked : SendAsked s g) where
   pub send_turn : JobAsked s.job
@@ -103,36 +100,33 @@ module _ {s : State} {g : Scan} (asked : SendAsked s g) where
     long : length (send_outcome s g mask sent).words ≡ n
     long = by_long s g mask sent (risen s.counter) ∙ sym en
 
-    pub sends_none : {d : List ℕ} → length d < n → Answered (reply s 6 0) d d (delivered s (send_outcome s g mask sent) (length d))
+    pub sends_none : {d : List ℕ} → length d < n → Answered s (Err NoRoom) d d (delivered s (send_outcome s g mask sent) (length d))
     sends_none {d} h = no_room s (send_outcome s g mask sent) d n long h
 
     pub sends : {next : State} {counter r : ℕ} {d d' : List ℕ} → next ≡ turned s → counter ≡ risen s.counter → n ≤ length d
         → Wrote (profile_by s g mask sent counter) d d' r
-        → Answered (reply next 0 r) d d' (delivered s (send_outcome s g mask sent) (length d))
+        → Answered s (served next r) d d' (delivered s (send_outcome s g mask sent) (length d))
     sends {counter = counter} {r = r} {d = d} {d' = d'} e ec h w =
         let v : Wrote (profile_by s g mask sent (risen s.counter)) d d' r = rw ec at w in
         let l : r ≡ n = v.counted ∙ long in
         rw (e, l) (has_room s (send_outcome s g mask sent) d n long h d' v.words)
 
 -- `revolution`
-module _ (s : State) (ds es rs : List ℕ) (start n : ℕ) (en : n ≡ revolution_refusal s (scan_with 0 ds es rs)) where
-  same : n ≡ revolution_refusal s (scan_with start ds es rs)
-  unfolding revolution_refusal
-  same = en
-
-  pub refuses : {d : List ℕ} → (n ≡ 0 → ⊥) → Answered (reply s n 0) d d (revolution_of s (scan_with start ds es rs) (length d))
+module _ (s : State) (g : Scan) where
+  pub refuses : (e : Refusal) {d : List ℕ} → refusal_number e ≡ revolution_refusal s g
+      → Answered s (Err e) d d (revolution_of s g (length d))
   unfolding revolution_of
-  refuses {d} h = rw (← same, ne_eqb n 0 h) (is_refused_lem s n d)
+  refuses e {d} en = rw (← en, is_number e) (is_refused_lem s e d)
 
-  module _ (z : n ≡ 0) where
-    goes_on : (room : ℕ) → revolution_of s (scan_with start ds es rs) room ≡ delivered s (revolved s (scan_with start ds es rs)) room
+  module _ (z : 0 ≡ revolution_refusal s g) where
+    goes_on : (room : ℕ) → revolution_of s g room ≡ delivered s (revolved s g) room
     unfolding revolution_of
-    goes_on room = rw (← same, eq-eqb n 0 z)
+    goes_on room = rw (← z)
 
-    pub accepted : length s.working.sectors ≡ 8 → SendAsked s (scan_with start ds es rs)
+    pub accepted : length s.working.sectors ≡ 8 → SendAsked s g
     unfolding revolution_refusal
     accepted eight =
-        let t = tests (in_range s) (is_measure s.mode) (lists_fit s (scan_with start ds es rs)) (reflectors_fit (scan_with start ds es rs)) (sym en ∙ z) in
+        let t = tests (in_range s) (is_measure s.mode) (lists_fit s g) (reflectors_fit g) (sym z) in
         record { eight = eight; range = t.0; measures = t.1; lists = t.2; reflectors = t.3 }
       where
         tests : (a b c d : Bool) → ◌≡◌ {A = ℕ} (if not a then 1 else if not b then 7 else if not c then 8 else if not d then 27 else 0) 0
@@ -143,17 +137,17 @@ module _ (s : State) (ds es rs : List ℕ) (start n : ℕ) (en : n ≡ revolutio
         tests true false c d e = absurd (omega arith)
         tests false b c d e = absurd (omega arith)
 
-    -- by whether there is a job
-    module _ {d : List ℕ} (b : Bool) (eb : b ≡ is_job s.job) where
-      pub no_profile : not b ≡ true → {next : State} → next ≡ turned s
-          → Answered (reply next 0 0) d d (revolution_of s (scan_with start ds es rs) (length d))
+    -- without a job, and with one
+    module _ {d : List ℕ} {b : Bool} (eb : b ≡ is_job s.job) where
+      pub no_profile : b ≡ false → {next : State} → next ≡ turned s → Answered s (served next 0) d d (revolution_of s g (length d))
       unfolding revolved
       no_profile q e =
-          let w : profile_of s (scan_with start ds es rs) s.job ≡ [] = rw (said_no eb q) in
-          rw (goes_on, e) (has_room s (revolved s (scan_with start ds es rs)) d 0 (ap length w) (omega arith) d (rw w (sym (over_none d))))
+          let w : profile_of s g s.job ≡ [] = rw (sym eb ∙ q) in
+          rw (goes_on, e) (has_room s (revolved s g) d 0 (ap length w) (omega arith) d (rw w (sym (over_none d))))
 
-      pub with_profile : not b ≡ false → {mask : Mask} {sent : ℕ} {r : Reply} {d' : List ℕ} → mask ≡ mask_of s.job → sent ≡ sent_after s.job
-          → Answered r d d' (delivered s (send_outcome s (scan_with start ds es rs) mask sent) (length d))
-          → Answered r d d' (revolution_of s (scan_with start ds es rs) (length d))
+      pub with_profile : b ≡ true → {mask : Mask} {sent : ℕ} {r : Result Reply Refusal} {d' : List ℕ}
+          → mask ≡ mask_of s.job → sent ≡ sent_after s.job
+          → Answered s r d d' (delivered s (send_outcome s g mask sent) (length d))
+          → Answered s r d d' (revolution_of s g (length d))
       unfolding revolved
-      with_profile q em en sends = rw (goes_on, said_yes eb q) (rw (em, en) at sends)
+      with_profile q em en sends = rw (goes_on, sym eb ∙ q) (rw (em, en) at sends)

@@ -3,16 +3,16 @@ use mathlib.Core.Path.{◌≡◌}
 use mathlib.Core.List.{List, ◌++◌}
 use Prim.Native.Nat.{ℕ, ◌+◌, ◌-◌, ◌≤◌, ◌<◌}
 use native.Mathlib.Omega.{arith}
-use lib.ListN.{length, get_or, take, drop, length-append}
+use lib.ListN.{length, get_or, take, drop}
 use Rattle.words.specs.Buffers.{in_turn, Wrote, Put}
-use Rattle.words.proofs.Puts.{as_long, room, and_put, lent_room, and_lent, turn_fits, turns_all, put_first}
+use Rattle.words.proofs.Puts.{and_put, and_lent, turn_fits, turns_all, put_first}
 use Rattle.units.specs.declared.Time.{Time}
 use Rattle.units.specs.Directions.{steps_past}
 use Rattle.units.specs.Times.{shot_time}
 use Rattle.plan.specs.declared.Arc.{Arc}
 use Rattle.layout.specs.Layout.{layout_sector}
 use Rattle.profile.specs.Points.{point_words}
-use Rattle.profile.specs.Profiles.{Scan, scan, point_at, points_of, sector_of}
+use Rattle.profile.specs.Profiles.{Scan, point_at, points_of, sector_of}
 use Rattle.profile.specs.Asked.{opening_words, closing_words, PointsAsked, SectorAsked}
 
 -- `write_points`
@@ -31,58 +31,23 @@ module _ (mask step : ℕ) (g : Scan) (a : Arc) (i to : ℕ) {d₀ d : List ℕ}
   points_done h k = put_first (turns_all (point_at mask step g a) a.points all_room so_far h k)
 
 -- `write_sector`: what is asked, with the times of its first shot and of its last
-pub record SectorBegun (mask step rate : ℕ) (g : Scan) (number : ℕ) (a : Arc) (d₀ : List ℕ) (t u : Time) : Type 0 where
-  pub asked : SectorAsked mask step rate g number a d₀
-  pub first : t.0 ≡ shot_time g.start rate a.shot
-  pub last : u.0 ≡ shot_time g.start rate (a.shot + a.shots - 1)
-
-module _ {mask step rate : ℕ} {g : Scan} {number : ℕ} {a : Arc} {d₀ : List ℕ} {t u : Time} (b : SectorBegun mask step rate g number a d₀ t u) where
+module _ {mask step rate : ℕ} {g : Scan} {number : ℕ} {a : Arc} {d₀ : List ℕ} {t u : Time} (asked : SectorAsked mask step rate g number a d₀)
+    (first : t.0 ≡ shot_time g.start rate a.shot) (last : u.0 ≡ shot_time g.start rate (a.shot + a.shots - 1)) where
   abbrev opens : List ℕ
   opens = opening_words mask number step a.points t.0 a.first.0
 
   abbrev closes : List ℕ
   closes = closing_words mask u.0 a.last.0
 
-  fits : length opens + length (points_of mask step g a) + length closes ≤ length d₀
-  fits =
-      let h = simp length-append at b.asked.room in
-      rw (b.first, b.last) (simp length-append (omega arith))
+  module _ {d part : List ℕ} {at n : ℕ} (put : Put opens d₀ 0 d at)
+      (filled : Wrote (points_of mask step g a) (take (length d - at) (drop at d)) part n) where
+    -- the buffer when the part is back
+    abbrev back : List ℕ
+    back = take at d ++ (part ++ drop (length d - at) (drop at d))
 
-  opening_fits : length opens ≤ length d₀
-  opening_fits = omega (arith, fits)
-
-  pub opening_room : 0 + length opens ≤ length d₀
-  opening_room = omega (arith, fits)
-
-  module _ {d : List ℕ} {at : ℕ} (put : Put opens d₀ 0 d at) where
-    opened : Wrote opens d₀ d at
-    opened = put_first put
-
-    pub points_asked : PointsAsked mask step (scan 0 g.distances g.echoes) a (take (length d - at) (drop at d))
+    both : Wrote (opens ++ points_of mask step g a) d₀ back (at + n)
     unfolding points_of
-    points_asked =
-        let c = b.asked.arc in
-        record {
-          arc = record { points = c.points; some_shot = c.some_shot; numbered = c.numbered; distances = c.distances; echoes = c.echoes };
-          room = rw (lent_room opened) (omega (arith, fits, as_long opened opening_fits, opened.counted));
-        }
+    both = and_lent (put_first put) filled
 
-    module _ {part : List ℕ} {n : ℕ}
-        (filled : Wrote (points_of mask step (scan 0 g.distances g.echoes) a) (take (length d - at) (drop at d)) part n) where
-      -- the buffer when the part is back
-      abbrev back : List ℕ
-      back = take at d ++ (part ++ drop (length d - at) (drop at d))
-
-      both : Wrote (opens ++ points_of mask step g a) d₀ back (at + n)
-      unfolding points_of
-      both = and_lent opened filled
-
-      pub behind_points : at + n ≤ length d₀
-      unfolding points_of
-      behind_points = omega (arith, fits, simp length-append at both.counted)
-
-      pub closing_room : at + n + length closes ≤ length back
-      closing_room = room both closes (rw length-append fits)
-
-      pub sector_done : {d' : List ℕ} {r : ℕ} → Put closes back (at + n) d' r → Wrote (layout_sector (sector_of mask step rate g number a)) d₀ d' r
-      sector_done p = rw (b.first, b.last) at (and_put both p)
+    pub sector_done : {d' : List ℕ} {r : ℕ} → Put closes back (at + n) d' r → Wrote (layout_sector (sector_of mask step rate g number a)) d₀ d' r
+    sector_done p = rw (first, last) at (and_put both p)

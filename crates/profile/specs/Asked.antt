@@ -1,6 +1,7 @@
 -- Technical: no rule stands here. What the inner writers ask of their callers, and the words that each puts. No outside caller meets these.
-use Rattle.std.specs.Prelude.{◌≡◌, List, [], ◌++◌, ℕ, ◌+◌, ◌≤◌, ◌<◌, T, length}
+use Rattle.std.specs.Prelude.{◌≡◌, List, [], ◌++◌, ℕ, ◌+◌, ◌≤◌, ◌<◌, T, length, if◌then◌else◌}
 use Rattle.words.specs.Lists.{Each}
+use Rattle.words.specs.Bits.{bit}
 use Rattle.words.specs.Words.{laid_all}
 use Rattle.layout.specs.Bits as bits
 use Rattle.layout.specs.declared.Mask.{Mask}
@@ -21,6 +22,10 @@ use Rattle.profile.specs.Points.{selected}
 use Rattle.profile.specs.Profiles.{Scan, points_of, sector_of, sectors_of, arcs_of, fields_of}
 use Rattle.profile.specs.Mixed.{with_layer, reflectors_given, reflectors_of}
 use Rattle.profile.specs.Revolutions.{risen, profile_by, turned, lists_fit, reflectors_fit}
+
+-- words where their bit of the mask is set
+abbrev pub chosen : ℕ → ℕ → List ℕ → List ℕ
+chosen mask k ws = if bit mask k then ws else []
 
 -- the words of a sector before its points, and behind them
 abbrev pub opening_words : ℕ → ℕ → ℕ → ℕ → ℕ → ℕ → List ℕ

@@ -12,6 +12,7 @@ use Rattle.plan.specs.Sectors.{active_of}
 use Rattle.plan.specs.Shots.{arcs}
 use Rattle.state.specs.declared.State.{State}
 use Rattle.state.specs.Modes.{mode_number}
+use Rattle.profile.specs.declared.scans.Scan.{Scan as Lent}
 use Rattle.profile.specs.Points.{point_words}
 
 -- a scan, what a revolution's caller hands in: the start time, the words of distance and echo by shot, and those of the reflectors (rule 5.1)
@@ -20,6 +21,10 @@ pub record Scan : Type 0 where
   pub distances : List ℕ
   pub echoes : List ℕ
   pub reflectors : List ℕ
+
+-- the scan that the code's struct stands for (rule 5.1)
+abbrev pub scan_of : Lent → Scan
+scan_of g = record { start = g.start.0; distances = g.distances.now; echoes = g.echoes.now; reflectors = g.reflectors.now }
 
 -- the scan of these; and one without reflectors, for what goes by shots alone (rule 5.1)
 abbrev pub scan_with : ℕ → List ℕ → List ℕ → List ℕ → Scan

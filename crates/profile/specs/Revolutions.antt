@@ -1,5 +1,5 @@
 -- Rules, section 5, and the numbers 1, 7, 8, 27 and 6: what a revolution does.
-use Rattle.std.specs.Prelude.{Bool, not, ◌&&◌, List, [], ℕ, ◌+◌, ◌-◌, ◌%◌, leb, eqb, length, if◌then◌else◌}
+use Rattle.std.specs.Prelude.{Bool, not, ◌&&◌, List, [], ℕ, ◌+◌, ◌-◌, ◌%◌, leb, eqb, length, if◌then◌else◌, Result}
 use Rattle.units.specs.Directions.{revolution_shots}
 use Rattle.layout.specs.declared.Mask.{Mask}
 use Rattle.layout.specs.MixedMasks.{reflector_length, most_reflectors}
@@ -9,10 +9,11 @@ use Rattle.state.specs.declared.State.{State}
 use Rattle.state.specs.declared.Job.{Job}
 use Rattle.state.specs.declared.Job.TheVariants.{Absent, Counted, Endless}
 use Rattle.state.specs.declared.Reply.{Reply}
+use Rattle.state.specs.declared.Refusal.{Refusal}
 use Rattle.state.specs.Jobs.{mask_of, is_job}
 use Rattle.state.specs.Fields.{with_drive, with_counter}
 use Rattle.state.specs.Ranges.{is_measure, in_range}
-use Rattle.state.specs.Replies.{Outcome, Result, refused, delivered, Answered}
+use Rattle.state.specs.Replies.{Outcome, Effect, refused, delivered, Answered}
 use Rattle.profile.specs.Profiles.{Scan, fields_of}
 use Rattle.profile.specs.Mixed.{reflectors_given, mixed_of}
 
@@ -66,10 +67,10 @@ revolution_refusal s g =
     if not (reflectors_fit g) then 27 else 0
 
 -- a revolution into a buffer of so many words: one of these, or 6, or the outcome (rule 5.3)
-unfoldable pub revolution_of : State → Scan → ℕ → Result
+unfoldable pub revolution_of : State → Scan → ℕ → Effect
 revolution_of s g room =
     if eqb (revolution_refusal s g) 0 then delivered s (revolved s g) room else refused s (revolution_refusal s g)
 
--- the contract of `revolution`: the reply, and the buffer from its contents before to those after (rule 5.3)
-abbrev pub RevolutionSays : State → Scan → List ℕ → List ℕ → Reply → Type 0
-RevolutionSays s g before after r = Answered r before after (revolution_of s g (length before))
+-- the contract of `revolution`: its answer, and the buffer from its contents before to those after (rule 5.3)
+abbrev pub RevolutionSays : State → Scan → List ℕ → List ℕ → Result Reply Refusal → Type 0
+RevolutionSays s g before after r = Answered s r before after (revolution_of s g (length before))

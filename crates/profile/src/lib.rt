@@ -2,12 +2,13 @@
 #![tactic(auto)]
 
 mod by_mask;
-mod mixed;
 mod points;
 mod profiles;
 mod puts;
 mod reflectors;
 mod revolutions;
+mod scans;
 mod sectors;
 
 pub use revolutions::revolution;
+pub use scans::Scan;

@@ -1,47 +1,28 @@
 // The reflectors of a mixed profile, as the revolution's caller hands them in (rules 5.18 and 5.19).
-ghost use Rattle.std.specs.Prelude.{◌+◌, ◌≤◌, ◌<◌, length};
+ghost use Rattle.std.specs.Prelude.{◌≡◌, ◌+◌, ◌≤◌, length};
 ghost use Rattle.words.specs.Buffers.{Put};
-ghost use Rattle.profile.specs.Mixed.{dword, dwords, reflector_words, reflectors_of};
+ghost use Rattle.layout.specs.MixedMasks.{reflector_length};
+ghost use Rattle.profile.specs.Mixed.{reflector_words, reflectors_of};
 ghost use Rattle.profile.specs.Asked.{reflector_part_of};
 
-use crate::puts::put_selected;
+use crate::puts::{put_chosen, put_selected};
 use layout::{REFLECTOR, bits};
 use units::{Echo, Time};
 
-// A number of two words of a list, at a place of the buffer where its bit of the mask is set; the place behind it.
-fn put_dword(out: &mut [u16], at: usize, mask: u32, k: u32, list: &[u16], from: usize) -> usize
-    requires { (at + length (dword mask k list.now from) ≤ length out.old) × (from + 1 < length list.now) }
-    ensures { Put (dword mask k list.now from) out.old at out.new result }
+// One reflector of eleven words (rule 5.18). Of a co-ordinate the two words are handed on as they are; the time in milliseconds and the
+// mean echo have one each.
+fn put_reflector(out: &mut [u16], at: usize, mask: u32, words: &[u16]) -> usize
+    requires room { at + length (reflector_words mask words.now 0) ≤ length out.old }
+    requires eleven { length words.now ≡ reflector_length }
+    ensures { Put (reflector_words mask words.now 0) out.old at out.new result }
 {
-    let high = list[from];
-    let low = list[from + 1];
-    let a = put_selected(out, at, mask, k, high);
-    put_selected(out, a, mask, k, low)
-}
-
-// Two of them, one behind the other.
-fn put_dwords(out: &mut [u16], at: usize, mask: u32, k: u32, list: &[u16], from: usize) -> usize
-    requires { (at + length (dwords mask k list.now from) ≤ length out.old) × (from + 3 < length list.now) }
-    ensures { Put (dwords mask k list.now from) out.old at out.new result }
-{
-    let a = put_dword(out, at, mask, k, list, from);
-    put_dword(out, a, mask, k, list, from + 2)
-}
-
-// One reflector, whose eleven words stand in the list from a place on (rule 5.18). Of a co-ordinate the two words are handed on as they
-// are; the time in milliseconds and the mean echo have one each.
-fn put_reflector(out: &mut [u16], at: usize, mask: u32, list: &[u16], from: usize) -> usize
-    requires { (at + length (reflector_words mask list.now from) ≤ length out.old) × (from + 10 < length list.now) }
-    ensures { Put (reflector_words mask list.now from) out.old at out.new result }
-{
-    let time = Time(list[from + 8]);
-    let echo = Echo(list[from + 9]);
-    let spots = list[from + 10];
-    let a = put_dwords(out, at, mask, bits::CARTESIAN, list, from);
-    let b = put_dwords(out, a, mask, bits::POLAR, list, from + 4);
+    let time = Time(words[8]);
+    let echo = Echo(words[9]);
+    let a = put_chosen(out, at, mask, bits::CARTESIAN, &words[0..4]);
+    let b = put_chosen(out, a, mask, bits::POLAR, &words[4..8]);
     let c = put_selected(out, b, mask, bits::TIME, time.0);
     let d = put_selected(out, c, mask, bits::MEAN_ECHO, echo.0);
-    put_selected(out, d, mask, bits::SPOTS, spots)
+    put_selected(out, d, mask, bits::SPOTS, words[10])
 }
 
 // All of them, each whole before the next (rule 5.19).
@@ -49,12 +30,9 @@ fn put_reflectors(out: &mut [u16], from: usize, mask: u32, list: &[u16]) -> usiz
     requires { from + length (reflectors_of mask list.now) ≤ length out.old }
     ensures { Put (reflectors_of mask list.now) out.old from out.new result }
 {
-    let count = list.len() / REFLECTOR;
     let mut at = from;
-    let mut r: usize = 0;
-    while r < count {
-        at = put_reflector(out, at, mask, list, r * REFLECTOR);
-        r += 1;
+    for reflector in list.chunks_exact(REFLECTOR) {
+        at = put_reflector(out, at, mask, reflector);
     }
     at
 }

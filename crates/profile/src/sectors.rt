@@ -2,11 +2,12 @@
 ghost use Rattle.std.specs.Prelude.{◌+◌, ◌≤◌, length};
 ghost use Rattle.words.specs.Buffers.{Put, Wrote};
 ghost use Rattle.layout.specs.Layout.{layout_sector};
-ghost use Rattle.profile.specs.Profiles.{scan, sector_of};
+ghost use Rattle.profile.specs.Profiles.{scan_of, sector_of};
 ghost use Rattle.profile.specs.Asked.{opening_words, closing_words, sectors_words, SectorAsked, SectorsAsked};
 
 use crate::points::write_points;
 use crate::puts::put_selected;
+use crate::scans::Scan;
 use layout::bits;
 use plan::{Arc, Plan};
 use units::{Angle, Time, shot_time};
@@ -44,62 +45,41 @@ fn put_closing(out: &mut [u16], at: usize, mask: u32, tend: Time, enddir: Angle)
 // One sector over the front of the rest of the buffer; how many words it has.
 fn write_sector(
     out: &mut [u16],
-    distances: &[u16],
-    echoes: &[u16],
-    start: Time,
+    scan: Scan,
     rate: u32,
     step: Angle,
     mask: u32,
     number: u16,
     arc: Arc,
 ) -> usize
-    requires { SectorAsked mask step.0 rate (scan start.0 distances.now echoes.now) number arc out.old }
-    ensures { Wrote (layout_sector (sector_of mask step.0 rate (scan start.0 distances.now echoes.now) number arc))
+    requires { SectorAsked mask step.0 rate (scan_of scan) number arc out.old }
+    ensures { Wrote (layout_sector (sector_of mask step.0 rate (scan_of scan.entry) number arc))
         out.old out.new result }
 {
-    let first = arc.first;
-    let last = arc.last;
-    let tstart = shot_time(start, rate, arc.shot);
-    let tend = shot_time(start, rate, arc.shot + arc.shots - 1);
-    let at = put_opening(out, 0, mask, number, step, arc.points, tstart, first);
-    let n = write_points(&mut out[at..], distances, echoes, arc, step, mask);
-    put_closing(out, at + n, mask, tend, last)
+    let tstart = shot_time(scan.start, rate, arc.shot);
+    let tend = shot_time(scan.start, rate, arc.shot + arc.shots - 1);
+    let at = put_opening(out, 0, mask, number, step, arc.points, tstart, arc.first);
+    let n = write_points(&mut out[at..], scan, arc, step, mask);
+    put_closing(out, at + n, mask, tend, arc.last)
 }
 
 // The sectors of a plan, from a place on; the place behind them.
 pub(crate) fn write_sectors(
     out: &mut [u16],
     from: usize,
-    distances: &[u16],
-    echoes: &[u16],
-    start: Time,
+    scan: Scan,
     rate: u32,
     plan: Plan,
     step: Angle,
     mask: u32,
 ) -> usize
-    requires { SectorsAsked mask step.0 rate (scan start.0 distances.now echoes.now) plan from out.old }
-    ensures { Put (sectors_words mask step.0 rate (scan start.0 distances.now echoes.now) plan)
+    requires { SectorsAsked mask step.0 rate (scan_of scan) plan from out.old }
+    ensures { Put (sectors_words mask step.0 rate (scan_of scan.entry) plan)
         out.old from out.new result }
 {
-    let count = plan::active_count(plan);
     let mut at = from;
-    let mut k: usize = 0;
-    while k < count {
-        let arc = plan::arc_at(plan, step, k);
-        let n = write_sector(
-            &mut out[at..],
-            distances,
-            echoes,
-            start,
-            rate,
-            step,
-            mask,
-            k as u16,
-            arc,
-        );
-        at += n;
-        k += 1;
+    for (k, arc) in plan::arcs_of(&plan, step).enumerate() {
+        at += write_sector(&mut out[at..], scan, rate, step, mask, k as u16, arc);
     }
     at
 }

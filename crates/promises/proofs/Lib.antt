@@ -1,4 +1,5 @@
 pub mod Demanded
+pub mod Handed
 pub mod Determining
 pub mod Exchanged
 pub mod Living

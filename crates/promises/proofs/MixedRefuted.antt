@@ -9,14 +9,14 @@ use Rattle.plan.specs.Sectors.{is_step, entry_in_range, plan_in_range}
 use Rattle.plan.specs.Checks.{lit_shots, measure_error}
 use Rattle.layout.specs.Masks.{mask_ok}
 use Rattle.layout.specs.MixedMasks.{mixed_ok}
-use Rattle.state.specs.declared.Reply.{Reply}
 use Rattle.state.specs.Ranges.{config_ok, in_range}
-use Rattle.state.specs.Replies.{delivered}
+use Rattle.state.specs.Replies.{Handed, delivered}
+use Rattle.state.proofs.HandedLaws.{said_is}
 use Rattle.profile.specs.Points.{point_words}
 use Rattle.profile.specs.Profiles.{points_of}
 use Rattle.profile.specs.Mixed.{reflectors_of}
 use Rattle.profile.specs.Revolutions.{revolved, revolution_refusal, revolution_of}
-use Rattle.promises.specs.MixedSlips.{MixedSlips}
+use Rattle.promises.specs.MixedSlips.{with_plain, with_none, MixedSlips}
 
 -- one word of a list, and one behind the first four
 abbrev word_at : ℕ → List ℕ → ℕ
@@ -33,6 +33,6 @@ mixed_slips =
       count_behind = λ r after h e. omega (arith, ap (behind_head 0) h.buffer, ap (word_at 0) e);
       senstat_behind = λ r after h e. omega (arith, ap (behind_head 0) h.buffer, ap (word_at 0) e);
       field_by_field = λ r after h e. omega (arith, ap (behind_head 2) h.buffer, ap (word_at 2) e);
-      untested_with_plain = λ r after h e. omega (arith, e, ap (λ (x : Reply). x.refusal) h.reply);
-      untested_without = λ r after h e. omega (arith, e, ap (λ (x : Reply). x.refusal) h.reply);
+      untested_with_plain = λ r after h e. omega (arith, e, said_is with_plain r, ap (λ (x : Handed). x.refusal) h.reply);
+      untested_without = λ r after h e. omega (arith, e, said_is with_none r, ap (λ (x : Handed). x.refusal) h.reply);
     }

@@ -5,12 +5,11 @@ use mathlib.Core.List.{List}
 use Prim.Native.Nat.{ℕ}
 use native.Mathlib.Omega.{arith}
 use lib.ListN.{get_or}
-use Rattle.std.specs.Prelude.{if◌then◌else◌}
+use Rattle.std.specs.Prelude.{if◌then◌else◌, Option, is_some}
 use Rattle.words.specs.Buffers.{over, in_turn}
 use Rattle.plan.specs.declared.Plan.{Plan}
 use Rattle.plan.specs.Sectors.{is_step, entry_in_range, plan_in_range, entry_at, stop_of}
-use Rattle.normal.specs.declared.Normalised.{Normalised}
-use Rattle.normal.specs.NormalForm.{plan_refusal, normalised_of}
+use Rattle.normal.specs.NormalForm.{Normalised, plan_refusal, normalised_of}
 use Rattle.services.specs.declared.Served.{Served}
 use Rattle.services.specs.Answers.{unpacked}
 use Rattle.plan.specs.Checks.{lit_shots, measure_error}
@@ -23,6 +22,7 @@ use Rattle.profile.specs.Profiles.{points_of}
 use Rattle.profile.specs.Revolutions.{revolved, revolution_refusal, revolution_of}
 use Rattle.reader.specs.Readings.{head_refusal, body_of, read_of}
 use Rattle.reader.specs.Stretches.{stretch_refusal_of, stretch_start}
+use Rattle.dialogue.specs.declared.Said.{Said}
 use Rattle.dialogue.specs.Records.{record_of, record_words}
 use Rattle.dialogue.specs.Lines.{digits, stripped, decimal, spaced_hex, line_of, fitting}
 use Rattle.dialogue.specs.Talks.{size_of, line_at}
@@ -57,12 +57,12 @@ wrong_answers =
       fresh_stop = λ e. omega (arith, ap (λ (s : State). first_stop s.working) e);
       step_from_elsewhere = λ r after h e. omega (arith, e, ap (λ (l : List ℕ). get_or l 3 0) h.buffer);
       stretch_at_front = λ words part e h. omega (arith, ap (λ (p : ℕ × ℕ). p.1) (rw e at h.stands));
-      place_first = λ e. omega (arith, e);
-      place_s = λ e. omega (arith, e);
+      place_first = λ h. omega (arith, h.number_is);
+      place_s = λ h. omega (arith, h.number_is);
       number_for_count = λ after h. omega (arith, h.counted);
       low_byte_first = λ h. omega (arith, ap (λ (l : List ℕ). get_or l 0 0) h.words);
       cut_for_whole = λ after h. omega (arith, ap size_of h.is);
-      small_digits = λ before eleven h. omega (arith, ap (λ (l : List ℕ). get_or l 6 0) (rw eleven at h.words));
-      line_cut = λ h. omega (arith, h.counted);
-      cut_record_taken = λ s text h. omega (arith, h.taken);
+      small_digits = λ before eleven h. omega (arith, ap (λ (l : List ℕ). get_or l 6 0) (rw eleven at h.text));
+      line_cut = λ h. omega (arith, ap (λ (o : Option ℕ). is_taken (is_some o)) h.said);
+      cut_record_taken = λ s text h. omega (arith, ap (λ (o : Option Said). is_taken (is_some o)) h.said);
     }

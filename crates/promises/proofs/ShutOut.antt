@@ -5,6 +5,7 @@ use Prim.Native.Nat.{ℕ}
 use native.Mathlib.Omega.{arith}
 use lib.Dec.{T}
 use lib.ListN.{length, get_or, replicate}
+use Rattle.std.specs.Prelude.{Result}
 use Rattle.words.specs.Buffers.{over, in_turn}
 use Rattle.plan.specs.declared.Plan.{Plan}
 use Rattle.plan.specs.Sectors.{sector, is_step, entry_in_range, plan_in_range, filled}
@@ -18,8 +19,10 @@ use Rattle.normal.proofs.Demand3.{demand3, answers_valid}
 use Rattle.layout.specs.Masks.{mask_ok}
 use Rattle.state.specs.declared.State.{State}
 use Rattle.state.specs.declared.Reply.{Reply}
+use Rattle.state.specs.declared.Refusal.{Refusal}
 use Rattle.state.specs.Ranges.{config_ok, in_range}
-use Rattle.state.specs.Replies.{delivered, Result}
+use Rattle.state.specs.Replies.{Handed, handed, delivered, Effect}
+use Rattle.state.proofs.HandedLaws.{said_is}
 use Rattle.state.specs.Fields.{with_plans, with_port}
 use Rattle.state.specs.Fresh.{fresh_plan, fresh_state, measuring}
 use Rattle.sensor.specs.Table.{service_of}
@@ -28,24 +31,26 @@ use Rattle.profile.specs.Points.{point_words}
 use Rattle.profile.specs.Profiles.{Scan, scan, points_of}
 use Rattle.profile.specs.Revolutions.{revolved, revolution_refusal, revolution_of}
 use Rattle.profile.specs.Figures.{still}
-use Rattle.reader.specs.declared.Reading.{Reading}
-use Rattle.reader.specs.Readings.{head_refusal, body_of, read_of, ReadSays}
+use Rattle.reader.specs.Said.{Said, MixedSaid}
+use Rattle.reader.specs.Readings.{head_refusal, body_of, read_of, ReadAnswer, said, ReadSays}
 use Rattle.layout.specs.declared.Mask.{Mask}
 use Rattle.layout.specs.MixedMasks.{mixed_ok, reflector_width}
-use Rattle.reader.specs.declared.MixedReading.{MixedReading}
-use Rattle.reader.specs.Mixed.{mixed_head_refusal, mixed_body_of, read_mixed_of, ReadMixedSays}
+use Rattle.reader.specs.Mixed.{mixed_head_refusal, mixed_body_of, read_mixed_of, MixedAnswer, mixed_said, ReadMixedSays}
 use Rattle.promises.specs.StandIns.{Call, Answering, OnlyTheFirstSector, ShutOut, StandInsShutOut}
 
--- what a caller finds of a result: its reply, and the buffer afterwards
-abbrev found : Result → List ℕ → (Reply × List ℕ)
+-- what a caller finds of an effect, and of a call's answer: what is handed back, and the buffer afterwards
+abbrev found : Effect → List ℕ → (Handed × List ℕ)
 found x d = (x.reply, over x.written d)
 
-abbrev word_at : ℕ → (Reply × List ℕ) → ℕ
+abbrev told : State → (Result Reply Refusal × List ℕ) → (Handed × List ℕ)
+told s a = (handed s a.0, a.1)
+
+abbrev word_at : ℕ → (Handed × List ℕ) → ℕ
 word_at k a = get_or a.1 k 0
 
 -- calls whose results tell the stand-ins from the contract: input i to a state s, in a buffer d, against another input j, another
 -- state, and nothing done
-record Witness {In : Type 0} (result : State → In → ℕ → Result) (s : State) (i j : In) (d : List ℕ) (k : ℕ) : Type 0 where
+record Witness {In : Type 0} (result : State → In → ℕ → Effect) (s : State) (i j : In) (d : List ℕ) (k : ℕ) : Type 0 where
   served : (result s i (length d)).reply.refusal ≡ 0
   other_input : word_at k (found (result s i (length d)) d) ≡ word_at k (found (result s j (length d)) d) → ⊥
   written : word_at k (found (result s i (length d)) d) ≡ get_or d k 0 → ⊥
@@ -53,24 +58,24 @@ record Witness {In : Type 0} (result : State → In → ℕ → Result) (s : Sta
   other_state : word_at k (found (result s i (length d)) d) ≡ word_at k (found (result fresh_state i (length d)) d) → ⊥
   other_count : (result s i (length d)).reply.count ≡ (result fresh_state j (length d)).reply.count → ⊥
 
-module _ {In : Type 0} (result : State → In → ℕ → Result) (f : Call In) (h : Answering result f) where
-  finds : (s : State) (i : In) (d : List ℕ) → f s i d ≡ found (result s i (length d)) d
+module _ {In : Type 0} (result : State → In → ℕ → Effect) (f : Call In) (h : Answering result f) where
+  finds : (s : State) (i : In) (d : List ℕ) → told s (f s i d) ≡ found (result s i (length d)) d
   finds s i d = λ n. ((h s i d).reply n, (h s i d).buffer n)
 
   -- where two calls agree, their results do
-  agree : (view : (Reply × List ℕ) → ℕ) (s t : State) (i j : In) (d : List ℕ) → view (f s i d) ≡ view (f t j d)
+  agree : (view : (Handed × List ℕ) → ℕ) (s t : State) (i j : In) (d : List ℕ) → view (told s (f s i d)) ≡ view (told t (f t j d))
       → view (found (result s i (length d)) d) ≡ view (found (result t j (length d)) d)
   agree view s t i j d e = ap view (sym (finds s i d)) ∙ e ∙ ap view (finds t j d)
 
-shut_out : {In : Type 0} (result : State → In → ℕ → Result) (s : State) (i j : In) (d : List ℕ) (k : ℕ)
+shut_out : {In : Type 0} (result : State → In → ℕ → Effect) (s : State) (i j : In) (d : List ℕ) (k : ℕ)
     → Witness result s i j d k
     → ShutOut result
 shut_out result s i j d k w =
     record {
-      refuses_all = λ f h all. all s i d (ap (λ (r : Reply). r.refusal) (h s i d).reply ∙ w.served);
-      constant_reply = λ f h same. w.other_input (agree result f h (word_at k) s s i j d (ap (word_at k) (same s i j d)));
+      refuses_all = λ f h all. all s i d (said_is s (f s i d).0 ∙ ap (λ (r : Handed). r.refusal) (h s i d).reply ∙ w.served);
+      constant_reply = λ f h same. w.other_input (agree result f h (word_at k) s s i j d (ap (λ a. word_at k (told s a)) (same s i j d)));
       writes_nothing = λ f h none. w.written (ap (word_at k) (sym (finds result f h s i d)) ∙ ap (λ (l : List ℕ). get_or l k 0) (none s i d));
-      keeps_the_state = λ f h keeps. w.moved (ap (λ (r : Reply). r.state) (sym (h s i d).reply) ∙ keeps s i d);
+      keeps_the_state = λ f h keeps. w.moved (ap (λ (r : Handed). r.state) (sym (h s i d).reply) ∙ keeps s i d);
       only_the_first = λ f h same. w.other_state (agree result f h (word_at k) s fresh_state i i d (ap (λ (l : List ℕ). get_or l k 0) (same s i d)));
       constant_count = λ f h same. w.other_count (agree result f h (λ a. a.0.count) s fresh_state i j d (same s fresh_state i j d));
     }
@@ -129,29 +134,30 @@ just_the_number = 0x8301 ∷ 1 ∷ 0x0101 ∷ 1 ∷ []
 
 -- that profile, and no word at all
 
-reader_refuses_all : (f : List ℕ → Reading) → ((ws : List ℕ) → ReadSays ws (f ws)) → ((ws : List ℕ) → (f ws).refusal ≡ 0 → ⊥) → ⊥
+reader_refuses_all :
+    (f : List ℕ → ReadAnswer) → ((ws : List ℕ) → ReadSays ws (f ws)) → ((ws : List ℕ) → (said (f ws)).refusal ≡ 0 → ⊥) → ⊥
 unfolding mask_ok head_refusal body_of read_of
-reader_refuses_all f h all = all just_the_number (ap (λ (r : Reading). r.refusal) (h just_the_number))
+reader_refuses_all f h all = all just_the_number (ap (λ (r : Said). r.refusal) (h just_the_number))
 
-one_reading_for_all : (f : List ℕ → Reading) → ((ws : List ℕ) → ReadSays ws (f ws)) → ((vs ws : List ℕ) → f vs ≡ f ws) → ⊥
+one_reading_for_all : (f : List ℕ → ReadAnswer) → ((ws : List ℕ) → ReadSays ws (f ws)) → ((vs ws : List ℕ) → f vs ≡ f ws) → ⊥
 unfolding mask_ok head_refusal body_of read_of
 one_reading_for_all f h same =
-    omega (arith, ap (λ (r : Reading). r.refusal) (sym (h []) ∙ same [] just_the_number ∙ h just_the_number))
+    omega (arith, ap (λ (r : Said). r.refusal) (sym (h []) ∙ ap said (same [] just_the_number) ∙ h just_the_number))
 
 -- a mixed profile with the number sent alone
 abbrev mixed_number_alone : List ℕ
 mixed_number_alone = 0x9301 ∷ 0 ∷ 1 ∷ 0x0101 ∷ 5 ∷ []
 
 mixed_reader_refuses_all :
-    (f : List ℕ → MixedReading) → ((ws : List ℕ) → ReadMixedSays ws (f ws)) → ((ws : List ℕ) → (f ws).refusal ≡ 0 → ⊥) → ⊥
+    (f : List ℕ → MixedAnswer) → ((ws : List ℕ) → ReadMixedSays ws (f ws)) → ((ws : List ℕ) → (mixed_said (f ws)).refusal ≡ 0 → ⊥) → ⊥
 unfolding mask_ok mixed_ok reflector_width mixed_head_refusal mixed_body_of read_mixed_of
-mixed_reader_refuses_all f h all = all mixed_number_alone (ap (λ (r : MixedReading). r.refusal) (h mixed_number_alone))
+mixed_reader_refuses_all f h all = all mixed_number_alone (ap (λ (r : MixedSaid). r.refusal) (h mixed_number_alone))
 
 one_mixed_reading_for_all :
-    (f : List ℕ → MixedReading) → ((ws : List ℕ) → ReadMixedSays ws (f ws)) → ((vs ws : List ℕ) → f vs ≡ f ws) → ⊥
+    (f : List ℕ → MixedAnswer) → ((ws : List ℕ) → ReadMixedSays ws (f ws)) → ((vs ws : List ℕ) → f vs ≡ f ws) → ⊥
 unfolding mask_ok mixed_ok reflector_width mixed_head_refusal mixed_body_of read_mixed_of
 one_mixed_reading_for_all f h same =
-    omega (arith, ap (λ (r : MixedReading). r.refusal) (sym (h []) ∙ same [] mixed_number_alone ∙ h mixed_number_alone))
+    omega (arith, ap (λ (r : MixedSaid). r.refusal) (sym (h []) ∙ ap mixed_said (same [] mixed_number_alone) ∙ h mixed_number_alone))
 
 -- two neighbours with one function, whose normal plan has a sector less
 abbrev joinable : Plan

@@ -1,13 +1,16 @@
 -- Rule 1.5: each public call has exactly one answer that meets its contract, whatever it is handed
 -- and whether it is refused or not. Proved in proofs/Determining.antt.
-use Rattle.std.specs.Prelude.{◌≡◌, List, ℕ}
+use Rattle.std.specs.Prelude.{◌≡◌, List, ℕ, Option, Result}
 use Rattle.std.specs.Borrow.{Bor}
 use Rattle.units.specs.declared.Angle.{Angle}
 use Rattle.units.specs.declared.Time.{Time}
 use Rattle.plan.specs.declared.Plan.{Plan}
+use Rattle.plan.specs.declared.checks.MeasureError.{MeasureError}
+use Rattle.plan.specs.Checks.{measure_error, error_said}
 use Rattle.normal.specs.NormalForm.{NormalPlanSays}
 use Rattle.state.specs.declared.State.{State}
 use Rattle.state.specs.declared.Reply.{Reply}
+use Rattle.state.specs.declared.Refusal.{Refusal}
 use Rattle.state.specs.Fresh.{FreshSays}
 use Rattle.services.specs.declared.Served.{Served}
 use Rattle.services.specs.Answers.{Gives}
@@ -40,9 +43,12 @@ pub record OneAnswer {A : Type 0} (Contract : A → Type 0) : Type 0 where
 -- The contracts are the very definitions that the code cites, each over all that the call is handed. A call that is lent a buffer answers
 -- with its result and the buffer afterwards (rule 1.5)
 pub record Determined : Type 1 where
-  pub request : (s : State) (ws before : List ℕ) → OneAnswer (λ (a : Reply × List ℕ). RequestSays s ws before a.1 a.0)
-  pub revolution : (s : State) (g : Scan) (before : List ℕ) → OneAnswer (λ (a : Reply × List ℕ). RevolutionSays s g before a.1 a.0)
+  pub request : (s : State) (ws before : List ℕ) → OneAnswer (λ (a : Result Reply Refusal × List ℕ). RequestSays s ws before a.1 a.0)
+  pub revolution : (s : State) (g : Scan) (before : List ℕ) → OneAnswer (λ (a : Result Reply Refusal × List ℕ). RevolutionSays s g before a.1 a.0)
   pub normal_plan : (p : Plan) (step : ℕ) → OneAnswer (NormalPlanSays p step)
+  -- which of the four checks fails first, if one does
+  pub check_measure : (p : Plan) (step speed : ℕ)
+      → OneAnswer (λ (r : Result (Unit {0}) MeasureError). error_said r ≡ measure_error p step speed)
   pub read : (ws : List ℕ) → OneAnswer (ReadSays ws)
   -- the words that are lent, and where they stand
   pub stretch : (words : Bor (List ℕ)) (place : ℕ)
@@ -64,9 +70,9 @@ pub record Determined : Type 1 where
   pub mixed_profile : (plan : List ℕ) (step running high low : ℕ) (g : Scan) (before : List ℕ)
       → OneAnswer (λ (a : ℕ × List ℕ). MixedSays plan step running high low g before a.1 a.0)
   pub take_record : (bytes before : List ℕ) → OneAnswer (λ (a : Record × List ℕ). TakeRecordSays a.0 bytes before a.1)
-  pub write_line : (nr refusal : ℕ) (ws before : List ℕ) → OneAnswer (λ (a : ℕ × List ℕ). WriteLineSays nr refusal ws before a.1 a.0)
+  pub write_line : (nr refusal : ℕ) (ws before : List ℕ) → OneAnswer (λ (a : Option ℕ × List ℕ). WriteLineSays nr refusal ws before a.1 a.0)
   pub answer : (s : State) (number : ℕ) (bytes before : List ℕ)
-      → OneAnswer (λ (a : Said × List ℕ). AnswerSays s number bytes before a.1 a.0)
+      → OneAnswer (λ (a : Option Said × List ℕ). AnswerSays s number bytes before a.1 a.0)
   -- each service of the table and `no_word`, told any response code: its contract also says that there are at most `longest` words
   pub service : (v : Service) (s : State) (code a b c d : ℕ) → OneAnswer (λ (r : Served). Gives r ((row_of v).does s code a b c d))
   -- the smaller functions: each contract says which value the answer is, or which number of sixteenths or milliseconds it holds

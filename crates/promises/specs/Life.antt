@@ -4,7 +4,7 @@ use Rattle.words.specs.Lists.{every, Each, are_words}
 use Rattle.state.specs.declared.State.{State}
 use Rattle.state.specs.Fresh.{fresh_state}
 use Rattle.state.specs.Ranges.{in_range}
-use Rattle.state.specs.Replies.{Result}
+use Rattle.state.specs.Replies.{Effect}
 use Rattle.sensor.specs.Requests.{request_of}
 use Rattle.profile.specs.Profiles.{Scan}
 use Rattle.profile.specs.Revolutions.{revolution_of}
@@ -15,7 +15,7 @@ pub data Event : Type 0 where
   asks : List ℕ → ℕ → Event
   turns : Scan → ℕ → Event
 
-abbrev pub result_of : State → Event → Result
+abbrev pub result_of : State → Event → Effect
 result_of s (asks ws room) = request_of s ws room
 result_of s (turns g room) = revolution_of s g room
 

@@ -6,7 +6,7 @@ use Rattle.layout.specs.declared.Mask.{Mask}
 use Rattle.state.specs.declared.Job.TheVariants.{Absent}
 use Rattle.state.specs.Fields.{with_drive}
 use Rattle.state.specs.Fresh.{fresh_plan, measuring}
-use Rattle.state.specs.Replies.{Result}
+use Rattle.state.specs.Replies.{Effect}
 use Rattle.profile.specs.Profiles.{Scan, scan_with}
 use Rattle.profile.specs.Revolutions.{revolution_of}
 
@@ -22,7 +22,7 @@ seen reflectors = scan_with 1000 (rising 2000 720) (rising 3000 720) reflectors
 abbrev pub two_reflectors : List ℕ
 two_reflectors = rising 101 11 ++ rising 201 11
 
-abbrev pub mixed_revolution : ℕ → ℕ → List ℕ → Result
+abbrev pub mixed_revolution : ℕ → ℕ → List ℕ → Effect
 mixed_revolution high low reflectors = revolution_of (measuring fresh_plan 8 10 (Mask.Mixed high low)) (seen reflectors) 2199
 
 -- a revolution's number for no with a mixed job, with a plain one, and without a job (rule 7.16)

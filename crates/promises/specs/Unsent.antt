@@ -4,13 +4,13 @@ use Rattle.state.specs.declared.State.{State}
 use Rattle.state.specs.declared.Settings.{Settings}
 use Rattle.state.specs.Fields.{with_settings}
 use Rattle.state.specs.Ranges.{in_range}
-use Rattle.state.specs.Replies.{Result}
+use Rattle.state.specs.Replies.{Effect}
 use Rattle.profile.specs.Profiles.{Scan}
 use Rattle.profile.specs.Revolutions.{revolution_of}
 
 -- two results with the same words, the same count and the same number for no; the second's state is the first's, but that it has these
 -- settings (rule 5.17)
-pub record Alike (n : Settings) (x y : Result) : Type 0 where
+pub record Alike (n : Settings) (x y : Effect) : Type 0 where
   pub written : y.written ≡ x.written
   pub count : y.reply.count ≡ x.reply.count
   pub refusal : y.reply.refusal ≡ x.reply.refusal

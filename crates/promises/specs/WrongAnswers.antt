@@ -1,13 +1,13 @@
 -- Technical: no rule stands here. Answers that the contracts of the smaller public functions refuse, where no edit of the code says so.
 -- Proved in proofs/Refuted.antt.
-use Rattle.std.specs.Prelude.{◌≡◌, true, List, [], ◌∷◌, ℕ, length, get_or}
+use Rattle.std.specs.Prelude.{◌≡◌, true, List, [], ◌∷◌, ℕ, length, get_or, Some, Ok, Err, Result}
 use Rattle.std.specs.Borrow.{Bor}
 use Rattle.words.specs.Plain.{ProductSays, WordAtSays}
 use Rattle.plan.specs.declared.Plan.{Plan}
 use Rattle.plan.specs.Sectors.{sector, entry_at, with_entry, filled}
 use Rattle.plan.specs.Validity.{multiples}
-use Rattle.normal.specs.declared.Normalised.{Normalised}
-use Rattle.normal.specs.NormalForm.{NormalPlanSays}
+use Rattle.normal.specs.declared.normal.PlanRefusal.{PlanRefusal}
+use Rattle.normal.specs.NormalForm.{said as NormalForm·said, NormalPlanSays}
 use Rattle.layout.specs.declared.Mask.{Mask}
 use Rattle.layout.specs.Masks.{point_width}
 use Rattle.state.specs.declared.State.{State}
@@ -16,6 +16,7 @@ use Rattle.state.specs.Modes.{mode_number}
 use Rattle.state.specs.declared.Job.TheVariants.{Absent}
 use Rattle.state.specs.Fields.{with_plans, with_drive}
 use Rattle.state.specs.declared.Reply.{Reply}
+use Rattle.state.specs.declared.Refusal.{Refusal}
 use Rattle.state.specs.Fresh.{fresh_plan, fresh_state, FreshSays, measuring}
 use Rattle.services.specs.declared.Served.{Served}
 use Rattle.services.specs.Answers.{Gives, unpacked}
@@ -23,6 +24,7 @@ use Rattle.services.specs.Configuration.{set_function}
 use Rattle.profile.specs.Figures.{still}
 use Rattle.profile.specs.Revolutions.{RevolutionSays}
 use Rattle.flat.specs.Sent.{ProfileSays}
+use Rattle.reader.specs.declared.ReadRefusal.TheVariants.{NoSuchPlace}
 use Rattle.reader.specs.Demands.{turned_round}
 use Rattle.reader.specs.Stretches.{StretchRefusalSays, StretchSays}
 use Rattle.dialogue.specs.declared.Record.TheVariants.{Whole}
@@ -58,9 +60,13 @@ pub record WrongAnswers : Type 0 where
   pub every_stop : true ≡ multiples 8 (sector 3 4 ∷ []) → ⊥
   -- `normal_plan`, each at step 8: the last sector joined to the first; of two joined ones the earlier stop
   pub last_joined :
-      (r : Normalised) → NormalPlanSays last_like_first 8 r → r.plan ≡ filled (sector 1 3000 ∷ sector 3 1000 ∷ []) → ⊥
+      (r : Result Plan PlanRefusal) → NormalPlanSays last_like_first 8 r
+      → (NormalForm·said r).plan ≡ filled (sector 1 3000 ∷ sector 3 1000 ∷ [])
+      → ⊥
   pub earlier_stop :
-      (r : Normalised) → NormalPlanSays neighbours 8 r → r.plan ≡ filled (sector 3 1000 ∷ sector 1 5000 ∷ []) → ⊥
+      (r : Result Plan PlanRefusal) → NormalPlanSays neighbours 8 r
+      → (NormalForm·said r).plan ≡ filled (sector 3 1000 ∷ sector 1 5000 ∷ [])
+      → ⊥
   -- SET_FUNCTION, stop 1004 at step 8, which is no multiple: answered by a word for no; the sector put out of use
   pub multiples_tested :
       (r : Served) → Gives r (set_function fresh_state 0x820A 0 3 1004 0) → get_or (unpacked r).words 3 0 ≡ 0xFFFF → ⊥
@@ -77,7 +83,8 @@ pub record WrongAnswers : Type 0 where
   pub fresh_stop : FreshSays (with_plans fresh_state (filled (sector 3 5759 ∷ [])) fresh_state.stored) → ⊥
   -- `revolution`: another step than the one that the points were taken at, 8, in a profile of that word alone
   pub step_from_elsewhere :
-      (r : Reply) (after : List ℕ) → RevolutionSays (measuring fresh_plan 8 10 (Mask.Plain 0x0010)) (still 720) (0 ∷ 0 ∷ 0 ∷ 0 ∷ []) after r
+      (r : Result Reply Refusal) (after : List ℕ)
+      → RevolutionSays (measuring fresh_plan 8 10 (Mask.Plain 0x0010)) (still 720) (0 ∷ 0 ∷ 0 ∷ 0 ∷ []) after r
       → get_or after 3 0 ≡ 4
       → ⊥
   -- `stretch`: at the front of the words, and not where the sector's points are
@@ -86,8 +93,8 @@ pub record WrongAnswers : Type 0 where
       → StretchSays words 0 (record { ref_ptr = words.ref_ptr; now = part })
       → ⊥
   -- `stretch_refusal`: 17 where the words are refused; a place of S taken, of two sectors
-  pub place_first : StretchRefusalSays [] 8 17 → ⊥
-  pub place_s : StretchRefusalSays turned_round 2 0 → ⊥
+  pub place_first : StretchRefusalSays [] 8 (Err NoSuchPlace) → ⊥
+  pub place_s : StretchRefusalSays turned_round 2 (Ok tt) → ⊥
   -- `slackjib_profile`: the number for no in the place of the count, at mask 0
   pub number_for_count : (after : List ℕ) → ProfileSays [] 8 10 0 (still 720) (7 ∷ []) after 1 → ⊥
   -- `take_record`: the low byte first; a record that its end cuts taken for whole
@@ -96,8 +103,10 @@ pub record WrongAnswers : Type 0 where
   -- `write_line`: small hex digits, "1 0 1 abcd"; as much of a line as there is room for
   pub small_digits :
       (before : List ℕ) → length before ≡ 11
-      → WriteLineSays 1 0 (0xABCD ∷ []) before (49 ∷ 32 ∷ 48 ∷ 32 ∷ 49 ∷ 32 ∷ 97 ∷ 98 ∷ 99 ∷ 100 ∷ 10 ∷ []) 11
+      → WriteLineSays 1 0 (0xABCD ∷ []) before (49 ∷ 32 ∷ 48 ∷ 32 ∷ 49 ∷ 32 ∷ 97 ∷ 98 ∷ 99 ∷ 100 ∷ 10 ∷ []) (Some 11)
       → ⊥
-  pub line_cut : WriteLineSays 1 0 [] (0 ∷ 0 ∷ 0 ∷ []) (49 ∷ 32 ∷ 48 ∷ []) 3 → ⊥
+  pub line_cut : WriteLineSays 1 0 [] (0 ∷ 0 ∷ 0 ∷ []) (49 ∷ 32 ∷ 48 ∷ []) (Some 3) → ⊥
   -- `answer`: the bytes of a record taken that its end cuts
-  pub cut_record_taken : (s : State) (text : List ℕ) → AnswerSays s 1 (1 ∷ 1 ∷ []) text text (record { state = s; taken = 2; length = 0 }) → ⊥
+  pub cut_record_taken :
+      (s : State) (text : List ℕ) → AnswerSays s 1 (1 ∷ 1 ∷ []) text text (Some (record { state = s; taken = 2; length = 0 }))
+      → ⊥

@@ -6,21 +6,19 @@ use mathlib.Core.Bool.{Bool, true, false}
 use native.Mathlib.Omega.{arith}
 use lib.Dec.{eqb}
 use lib.ListN.{length, drop, length-map}
-use borrow.Author.Tests.{eqb-true, eqb-false}
+use borrow.Author.Tests.{eq-eqb, ne_eqb, eqb-true, eqb-false}
 use Rattle.words.specs.Parse.{Got, short, got}
 use Rattle.words.specs.Format.{Format, AllOk}
 use Rattle.words.proofs.Lawful.{Lawful, Sound, SoundOf}
 use Rattle.layout.specs.declared.Kind.{Kind}
 use Rattle.layout.specs.Layout.{head_length}
 use Rattle.reader.specs.declared.SectorReading.{SectorReading}
-use Rattle.reader.specs.declared.Reading.{Reading}
-use Rattle.reader.specs.declared.Place.TheVariants.{Nowhere}
+use Rattle.reader.specs.Said.{Nowhere, Said}
 use Rattle.reader.specs.Sectors.{sector}
 use Rattle.reader.specs.Readings.{mask_in, count_in, head_refusal, Body, sectors_in, body}
 use Rattle.reader.specs.Readings.{refused_reading, accepted_reading, with_left, end_of, ended, body_of, read_of}
 use Rattle.reader.proofs.Heads.{GoodHead, good_head}
 use Rattle.reader.proofs.Bodies.{body_lawful, sectors_ok_lem}
-use Rattle.reader.proofs.Readouts.{refused_head, read_whole}
 
 -- what the body's format finds behind the first three words
 abbrev pub found_in : List ℕ → Got (Body SectorReading)
@@ -39,7 +37,7 @@ abbrev pub Accepted : List ℕ → Type 0
 Accepted ws = Parsed ws []
 
 -- the ways a reading goes: its head is refused, its words end early, some are left over, or it is accepted
-pub data Outcome (ws : List ℕ) : Reading → Type 0 where
+pub data Outcome (ws : List ℕ) : Said → Type 0 where
   refused : (head_refusal ws ≡ 0 → ⊥) → Outcome ws (refused_reading (head_refusal ws) Nowhere)
   cut : GoodHead Kind.Plain ws → found_in ws ≡ short → Outcome ws (refused_reading 15 (end_of ws))
   over : {w : ℕ} {rest : List ℕ} → Parsed ws (w ∷ rest) → Outcome ws (refused_reading 16 Nowhere)
@@ -48,11 +46,12 @@ pub data Outcome (ws : List ℕ) : Reading → Type 0 where
 module _ (ws : List ℕ) where
   -- the reader refuses by the head, or gives what the body's format finds
   pub by_head : (head_refusal ws ≡ 0 → ⊥) → read_of ws ≡ refused_reading (head_refusal ws) Nowhere
-  by_head h = sym (refused_head ws (head_refusal ws) refl _ h refl)
+  unfolding read_of
+  by_head h = rw (ne_eqb (head_refusal ws) 0 h)
 
   pub by_body : head_refusal ws ≡ 0 → {g : Got (Body SectorReading)} → found_in ws ≡ g → read_of ws ≡ ended (mask_in ws) (count_in ws) (end_of ws) g
-  unfolding body_of
-  by_body h e = sym (read_whole ws (head_refusal ws) refl _ h (sym (ap (ended (mask_in ws) (count_in ws) (end_of ws)) e)))
+  unfolding read_of body_of
+  by_body h e = rw (eq-eqb (head_refusal ws) 0 h) (ap (ended (mask_in ws) (count_in ws) (end_of ws)) e)
 
   abbrev with_left_lem : head_refusal ws ≡ 0 → {a : Body SectorReading} {b : ℕ} {rest : List ℕ} → found_in ws ≡ got a b rest → Parsed ws rest
   with_left_lem h {a} {b} e = record { head = good_head Kind.Plain ws h; value = a; place = b; parsed = e; reading = by_body h e }
@@ -72,7 +71,7 @@ module _ (ws : List ℕ) where
   pub accepted : (read_of ws).refusal ≡ 0 → Accepted ws
   accepted = go outcome
     where
-      go : {r : Reading} → Outcome ws r → r.refusal ≡ 0 → Accepted ws
+      go : {r : Said} → Outcome ws r → r.refusal ≡ 0 → Accepted ws
       go (refused h) e = absurd (h e)
       go (cut h p) e = absurd (omega arith)
       go (over s) e = absurd (omega arith)
@@ -82,7 +81,7 @@ module _ (ws : List ℕ) where
   pub has_sector : 0 < (read_of ws).count → (read_of ws).refusal ≡ 0
   has_sector = go outcome
     where
-      go : {r : Reading} → Outcome ws r → 0 < r.count → r.refusal ≡ 0
+      go : {r : Said} → Outcome ws r → 0 < r.count → r.refusal ≡ 0
       go (refused h) e = absurd (omega arith)
       go (cut h p) e = absurd (omega arith)
       go (over s) e = absurd (omega arith)

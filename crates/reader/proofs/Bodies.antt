@@ -4,8 +4,10 @@ use mathlib.Core.Path.{◌≡◌, sym, ◌∙◌}
 use mathlib.Core.List.{List, []}
 use native.Mathlib.Nat.{zero-add}
 use native.Mathlib.Omega.{arith}
+use lib.Dec.{leb}
 use lib.ListN.{length, drop, length-drop}
 use borrow.Author.Tests.{le-leb, lt-leb}
+use Rattle.std.specs.Prelude.{if◌then◌else◌}
 use Rattle.words.specs.declared.Took.{Took}
 use Rattle.words.specs.Bits.{bit}
 use Rattle.words.specs.Lists.{Each}
@@ -18,10 +20,8 @@ use Rattle.words.proofs.Tracks.{Tracks, out_at, in_out, past_out, nothing_tracks
 use Rattle.layout.specs.Bits as bits
 use Rattle.layout.specs.Fields.{SectorFields}
 use Rattle.reader.specs.declared.SectorReading.{SectorReading}
-use Rattle.reader.specs.declared.Sectors.{Sectors}
 use Rattle.reader.specs.Sectors.{sector}
 use Rattle.reader.specs.Readings.{Body, sectors_in, body}
-use Rattle.reader.specs.Places.{value_of, place_of, from_place, SectorsRead}
 use Rattle.reader.proofs.SectorPlaces.{sector_extends}
 
 pub sectors_extends : (mask count : ℕ) → Extends (times count (sector mask))
@@ -39,6 +39,18 @@ body_extends mask count =
 
 pub body_lawful : (mask count : ℕ) → Lawful (body mask count)
 body_lawful mask count = (body_extends mask count).lawful
+
+-- what was found, and the place behind it, which is one past the end where nothing was
+abbrev pub value_of : {A : Type 0} → A → Got A → A
+value_of d short = d
+value_of d (got a place ws) = a
+
+abbrev pub place_of : {A : Type 0} → List ℕ → Got A → ℕ
+place_of ws short = length ws + 1
+place_of ws (got a place ws') = place
+
+abbrev pub from_place : {A F : Type 0} → Format A F → List ℕ → ℕ → Got A
+from_place format ws at = if leb at (length ws) then format.parse at (drop at ws) else short
 
 -- any lawful format, read from a place
 module _ {A F : Type 0} (c : Format A F) (lawful : Lawful c) (d : A) (ws : List ℕ) (i : ℕ) where
@@ -58,14 +70,14 @@ pub record BodyWalk (first mask count : ℕ) (ws : List ℕ) : Type 0 where
   pub sent : Took
   pub counter : Took
   pub layer : Took
-  pub found : Sectors
+  pub found : ℕ
   pub high : Took
   pub low : Took
   pub is_sent : sent ≡ take_at (bit mask bits.sent) ws first
   pub is_counter : counter ≡ take_at (bit mask bits.counter) ws sent.at
   pub is_layer : layer ≡ take_at (bit mask bits.layer) ws counter.at
-  pub is_found : SectorsRead ws mask count layer.at found
-  pub is_high : high ≡ take_at (bit mask bits.senstat) ws found.at
+  pub is_found : found ≡ place_of ws (from_place (times count (sector mask)) ws layer.at)
+  pub is_high : high ≡ take_at (bit mask bits.senstat) ws found
   pub is_low : low ≡ take_at (bit mask bits.senstat) ws high.at
 
 -- of the whole body, what is so of its sectors
@@ -107,7 +119,7 @@ module _ (first mask count : ℕ) (ws : List ℕ) (long : first ≤ length ws) w
           ← w.is_sent,
           ← w.is_counter,
           ← w.is_layer,
-          ← w.is_found.place,
+          ← w.is_found,
           ← w.is_high,
           ← w.is_low,
         )

@@ -3,6 +3,7 @@ pub mod SectorPlaces
 pub mod Loops
 pub mod Bodies
 pub mod Ends
+pub mod Errors
 pub mod MixedEnds
 pub mod Prefixes
 pub mod PartsTile
@@ -33,3 +34,4 @@ pub mod MixedLaid
 pub mod MixedRoundTrip
 pub mod MixedNumbers
 pub mod MixedParts
+pub mod OneAnswer

@@ -6,17 +6,13 @@ use native.Mathlib.Omega.{arith}
 use native.Mathlib.Numerals.{add-one}
 use lib.ListN.{length, take, drop, set, replicate, length-drop, length-set, length-replicate, take-append-drop}
 use lib.Seq.{take_all, take-suc-set, drop-set-lt, drop-drop, length-take-le}
-use borrow.Author.Tests.{le-leb, lt-leb}
+use Rattle.std.specs.Prelude.{Option, Some, None}
 use Rattle.words.specs.Parse.{Got, short, got, map_got, times_parse}
-use Rattle.words.specs.Format.{times}
 use Rattle.words.proofs.Lawful.{Sound, SoundOf, KeptOf}
-use Rattle.reader.specs.declared.Found.{Found}
-use Rattle.reader.specs.declared.Found.TheVariants.{Cut, Whole}
-use Rattle.reader.specs.declared.Sectors.{Sectors}
 use Rattle.reader.specs.declared.SectorReading.{SectorReading}
 use Rattle.reader.specs.Sectors.{sector, blank_sector, found_of}
 use Rattle.reader.specs.Endings.{wholes}
-use Rattle.reader.specs.Places.{from_place, SectorsRead}
+use Rattle.reader.specs.Places.{SectorsWhole, SectorsCut}
 use Rattle.reader.proofs.SectorPlaces.{sector_lawful}
 
 -- the part of the words from a place on, as `&words[at..]` lends it
@@ -24,11 +20,13 @@ rest_all : (ws : List ℕ) (at : ℕ) → take (length ws - at) (drop at ws) ≡
 rest_all ws at = take_all (length ws - at) (drop at ws) (omega (arith, length-drop at ws))
 
 -- what the sector reader's answer says was found
-whole_got : (g : Got SectorReading) (s : SectorReading) (n : ℕ) → found_of g ≡ Whole s n → (ws : List ℕ) × (g ≡ got s n ws)
+whole_got : (g : Got SectorReading) (s : SectorReading) (n : ℕ) → found_of g ≡ Some (s, n) → (ws : List ℕ) × (g ≡ got s n ws)
 whole_got short s n e = absurd (let z : ◌≡◌ {A = ℕ} 0 1 = cc in omega arith)
-whole_got (got a b ws) s n e = (ws, cc)
+whole_got (got a b ws) s n e =
+    let same : ◌≡◌ {A = SectorReading × ℕ} (a, b) (s, n) = cc in
+    (ws, ap (λ (p : SectorReading × ℕ). got p.0 p.1 ws) same)
 
-cut_short : (g : Got SectorReading) → found_of g ≡ Cut → g ≡ short
+cut_short : (g : Got SectorReading) → found_of g ≡ None → g ≡ short
 cut_short short e = refl
 cut_short (got a b ws) e = absurd (let z : ◌≡◌ {A = ℕ} 0 1 = cc in omega arith)
 
@@ -66,53 +64,31 @@ module _ (words : List ℕ) (mask count from : ℕ) where
         whole = rw all (omega arith);
       })
 
-  -- not all were read
-  none_read : (r : Sectors) → r.at ≡ length words + 1 → r.list ≡ replicate 8 blank_sector
-      → from_place (times count (sector mask)) words from ≡ short
-      → (from ≤ length words → r.begun ≡ wholes count (sector mask).parse from (drop from words) + 1)
-      → SectorsRead words mask count from r
-  none_read r p q e n = record { place = rw e p; list = rw e q; all = λ h k. absurd (omega arith); cut = λ h k. n h; within = omega arith }
-
-  pub past_end : length words < from → (r : Sectors) → r.at ≡ length words + 1 → r.list ≡ replicate 8 blank_sector
-      → SectorsRead words mask count from r
-  past_end h r p q = none_read r p q (rw (lt-leb from (length words) h)) (λ k. absurd (omega arith))
-
   module _ (list : List SectorReading) (at k : ℕ) (h : SoFar words mask count from list at k) where
     -- the loop is done
-    pub all_read : count ≤ k → count ≤ 8 → from ≤ length words
-        → SectorsRead words mask count from (record { at = at; begun = k; list = list })
-    all_read done few inside =
+    pub all_read : count ≤ k → count ≤ 8 → SectorsWhole words mask count from list at
+    all_read done few =
         let n : k ≤ count = h.counted in
         let all : k ≡ count = omega arith in
         let none : count - count ≡ 0 = omega arith in
         let long : length list ≡ 8 = h.slots in
-        let p : at ≤ length words = h.place in
         let full : list ≡ take count list ++ replicate (8 - length (take count list)) blank_sector =
         rw (length-take-le count list (omega arith)) (sym (take-append-drop count list) ∙ ap (λ ys. take count list ++ ys) (rw all at h.blanks)) in
-        let ends : times_parse count (sector mask).parse from (drop from words) ≡ got (take count list) at (drop at words) =
-        rw all at h.found ∙ rw (none, append-nil) in
-        record {
-          place = rw (le-leb from (length words) inside, ends);
-          list = rw (le-leb from (length words) inside, ends) full;
-          all = λ _ _. all;
-          cut = λ _ past. absurd (omega arith);
-          within = omega arith;
-        }
+        record { list = take count list; found = rw all at h.found ∙ rw (none, append-nil); padded_out = full; inside = h.place }
 
-    module _ (more : k < count) (r : Found) (e : r ≡ found_of ((sector mask).parse at (take (length words - at) (drop at words)))) where
+    module _ (more : k < count) (r : Option (SectorReading × ℕ))
+        (e : r ≡ found_of ((sector mask).parse at (take (length words - at) (drop at words)))) where
       answered : found_of ((sector mask).parse at (drop at words)) ≡ r
       answered = rw rest_all at (sym e)
 
+      left : count - k ≡ suc (count - (k + 1))
+      left = omega arith
+
       -- one turn finds that the words end early
-      pub cut_off : r ≡ Cut → from ≤ length words → (s : Sectors) → s.at ≡ length words + 1 → {begun : ℕ} → s.begun ≡ begun
-          → begun ≡ k + 1 → s.list ≡ replicate 8 blank_sector
-          → SectorsRead words mask count from s
-      cut_off q inside s a b next l =
-          let left : count - k ≡ suc (count - (k + 1)) = omega arith in
+      pub cut_off : r ≡ None → {place : ℕ} → place ≡ k → SectorsCut words mask count from place
+      cut_off q is =
           let here : (sector mask).parse at (drop at words) ≡ short = cut_short _ (answered ∙ q) in
-          let cut : times_parse count (sector mask).parse from (drop from words) ≡ short = h.found ∙ rw (left, here) in
-          let whole : wholes count (sector mask).parse from (drop from words) ≡ 0 + k = h.whole ∙ rw (left, here) in
-          none_read s a l (rw (le-leb from (length words) inside, cut)) (λ _. omega arith)
+          record { found = h.found ∙ rw (left, here); begun = is ∙ sym (h.whole ∙ rw (left, here) (omega arith)) }
 
       -- one turn finds a sector
       turned : (a : SectorReading) (next : ℕ) (ws' : List ℕ) → (sector mask).parse at (drop at words) ≡ got a next ws' → count ≤ 8
@@ -122,7 +98,6 @@ module _ (words : List ℕ) (mask count from : ℕ) where
           let kept : next + length ws' ≡ at + length (drop at words) = subst (KeptOf at (drop at words)) e ((sector_lawful mask).kept at (drop at words)) in
           let p : at ≤ length words = h.place in
           let long : length list ≡ 8 = h.slots in
-          let left : count - k ≡ suc (count - (k + 1)) = omega arith in
           let room : 8 - k ≡ suc (8 - (k + 1)) = omega arith in
           let here : k < length list = omega arith in
           let one_more : take (k + 1) (set list k a) ≡ take k list ++ (a ∷ []) = rw (add-one k, take-suc-set list k a here) in
@@ -135,5 +110,5 @@ module _ (words : List ℕ) (mask count from : ℕ) where
             whole = h.whole ∙ rw (left, e, sound.rest) (omega arith);
           }
 
-      pub turns : (a : SectorReading) (next : ℕ) → r ≡ Whole a next → count ≤ 8 → SoFar words mask count from (set list k a) next (k + 1)
+      pub turns : (a : SectorReading) (next : ℕ) → r ≡ Some (a, next) → count ≤ 8 → SoFar words mask count from (set list k a) next (k + 1)
       turns a next q few = let g = whole_got _ a next (answered ∙ q) in turned a next g.0 g.1 few

@@ -7,8 +7,7 @@ use native.Mathlib.Omega.{arith}
 use lib.Dec.{eqb, leb, ltb}
 use lib.ListN.{length, drop}
 use borrow.Author.Tests.{eq-eqb, ne_eqb, eqb-true, eqb-false, leb-true, leb-false, ltb-true, ltb-false, le-leb, lt-leb, lt-ltb, le-ltb}
-use Rattle.words.specs.declared.Word.{Word}
-use Rattle.std.specs.Prelude.{if◌then◌else◌}
+use Rattle.std.specs.Prelude.{if◌then◌else◌, Option}
 use Rattle.words.specs.Bits.{bit}
 use Rattle.words.specs.Words.{number_of}
 use Rattle.words.specs.Parse.{Got, short, got, word}
@@ -16,9 +15,8 @@ use Rattle.layout.specs.Bits as bits
 use Rattle.layout.specs.MixedMasks.{reflector_width, most_reflectors}
 use Rattle.layout.specs.Mixed.{mixed_head_length}
 use Rattle.reader.specs.declared.SectorReading.{SectorReading}
-use Rattle.reader.specs.declared.MixedReading.{MixedReading}
 use Rattle.reader.specs.declared.MixedPart.TheVariants.{Contour, Count, Reflector}
-use Rattle.reader.specs.declared.MixedPlace.TheVariants.{Nowhere, At}
+use Rattle.reader.specs.Said.{Nowhere, At, MixedSaid}
 use Rattle.reader.specs.Endings.{part_missing}
 use Rattle.reader.specs.Readings.{Body, body}
 use Rattle.reader.specs.Mixed.{mixed_mask_in, mixed_count_in, mixed_head_refusal, plain_of, refused_mixed, accepted_mixed}
@@ -28,11 +26,11 @@ use Rattle.reader.specs.Mixed.{mixed_left, with_reflectors, with_count, with_con
 abbrev pub contour_found : List ℕ → Got (Body SectorReading)
 contour_found ws = (body (mixed_mask_in ws) (mixed_count_in ws)).parse mixed_head_length (drop mixed_head_length ws)
 
-abbrev pub count_found : List ℕ → ℕ → List ℕ → Got Word
+abbrev pub count_found : List ℕ → ℕ → List ℕ → Got (Option ℕ)
 count_found ws place rest = word (bit (mixed_mask_in ws) bits.reflectors) place rest
 
 -- how many words the reflectors have
-abbrev pub reflector_words : List ℕ → Word → ℕ
+abbrev pub reflector_words : List ℕ → Option ℕ → ℕ
 reflector_words ws n = number_of n * reflector_width (mixed_mask_in ws)
 
 -- a head that passes and a contour that is read, with some words left
@@ -46,7 +44,7 @@ pub record ContourParsed (ws rest : List ℕ) : Type 0 where
 pub record CountParsed (ws rest : List ℕ) : Type 0 where
   pub behind : List ℕ
   pub contour : ContourParsed ws behind
-  pub number : Word
+  pub number : Option ℕ
   pub start : ℕ
   pub parsed : count_found ws contour.place behind ≡ got number start rest
 
@@ -65,7 +63,7 @@ MixedAccepted ws = MixedParsed ws []
 
 -- the head is refused; the words end early in the contour or at the word of bit 16; that says too many; the words end early in the reflectors;
 -- some are left over; or the reading is accepted
-pub data MixedOutcome (ws : List ℕ) : MixedReading → Type 0 where
+pub data MixedOutcome (ws : List ℕ) : MixedSaid → Type 0 where
   refused : (mixed_head_refusal ws ≡ 0 → ⊥) → MixedOutcome ws (refused_mixed (mixed_head_refusal ws) Nowhere)
   cut_contour : mixed_head_refusal ws ≡ 0 → contour_found ws ≡ short
       → MixedOutcome ws (refused_mixed 15 (At (length ws) (Contour (part_missing (mixed_mask_in ws) (mixed_count_in ws) (plain_of ws)))))
@@ -87,7 +85,7 @@ module _ (ws : List ℕ) where
   unfolding read_mixed_of mixed_body_of
   by_contour h e = rw (eq-eqb (mixed_head_refusal ws) 0 h) (ap (with_contour ws) e)
 
-  pub by_count : {rest : List ℕ} (s : ContourParsed ws rest) {g : Got Word} → count_found ws s.place rest ≡ g
+  pub by_count : {rest : List ℕ} (s : ContourParsed ws rest) {g : Got (Option ℕ)} → count_found ws s.place rest ≡ g
       → read_mixed_of ws ≡ with_count ws s.value g
   by_count s e = by_contour s.head s.parsed ∙ ap (with_count ws s.value) e
 
@@ -131,7 +129,8 @@ module _ (ws : List ℕ) where
       at_number s true e = let h = ltb-true most_reflectors (number_of s.number) e in rw (by_many s h) (too_many s h)
       at_number s false e = at_reflectors s (ltb-false most_reflectors (number_of s.number) e) _ refl
 
-      at_count : {rest : List ℕ} (s : ContourParsed ws rest) (g : Got Word) → count_found ws s.place rest ≡ g → MixedOutcome ws (read_mixed_of ws)
+      at_count : {rest : List ℕ} (s : ContourParsed ws rest) (g : Got (Option ℕ)) → count_found ws s.place rest ≡ g
+          → MixedOutcome ws (read_mixed_of ws)
       at_count s short e = rw (by_count s e) (cut_count s e)
       at_count s (got n at rest) e = at_number (record { behind = _; contour = s; number = n; start = at; parsed = e }) _ refl
 
@@ -146,7 +145,7 @@ module _ (ws : List ℕ) where
   pub mixed_accepted : (read_mixed_of ws).refusal ≡ 0 → MixedAccepted ws
   mixed_accepted = go mixed_outcome
     where
-      go : {r : MixedReading} → MixedOutcome ws r → r.refusal ≡ 0 → MixedAccepted ws
+      go : {r : MixedSaid} → MixedOutcome ws r → r.refusal ≡ 0 → MixedAccepted ws
       go (refused h) e = absurd (h e)
       go (cut_contour h p) e = absurd (omega arith)
       go (cut_count s p) e = absurd (omega arith)

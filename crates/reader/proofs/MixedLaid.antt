@@ -6,9 +6,9 @@ use mathlib.Core.List.{List, [], ◌++◌, append_assoc, append-nil}
 use mathlib.Core.Bool.{Bool}
 use lib.ListN.{length, get_or, take, drop, take-append-drop}
 use lib.Seq.{length-take-le}
-use Rattle.words.specs.declared.Word.{Word}
+use Rattle.std.specs.Prelude.{Option, option_to_list}
 use Rattle.words.specs.Bits.{bit}
-use Rattle.words.specs.Words.{words_of, number_of, Shaped}
+use Rattle.words.specs.Words.{number_of, Shaped}
 use Rattle.words.specs.Format.{one}
 use Rattle.words.proofs.Lawful.{Sound, one_lawful}
 use Rattle.layout.specs.Bits as bits
@@ -26,7 +26,7 @@ use Rattle.reader.proofs.MixedAccepted.{ContourParsed, CountParsed, MixedParsed,
 use Rattle.reader.proofs.Laid.{fields_of, first_words, acceptable, laid}
 
 -- the words of the mask, and what stands behind the head
-abbrev pub mixed_of : List ℕ → Body SectorFields → Word → List ℕ → MixedFields
+abbrev pub mixed_of : List ℕ → Body SectorFields → Option ℕ → List ℕ → MixedFields
 mixed_of ws b n xs =
     record {
       high = get_or ws 1 0;
@@ -38,7 +38,7 @@ mixed_of ws b n xs =
 
 -- behind a head that passes
 module _ (ws : List ℕ) (head : GoodHead Kind.Mixed ws) (b : Body SectorFields) (ok : (body (mixed_mask_in ws) (mixed_count_in ws)).ok b)
-    (n : Word) (shaped : Shaped (bit (mixed_mask_in ws) bits.reflectors) n) (few : number_of n ≤ most_reflectors)
+    (n : Option ℕ) (shaped : Shaped (bit (mixed_mask_in ws) bits.reflectors) n) (few : number_of n ≤ most_reflectors)
     (xs : List ℕ) (long : length xs ≡ reflector_words ws n) where
   pub mixed_acceptable : MixedAcceptable (mixed_of ws b n xs)
   mixed_acceptable =
@@ -52,14 +52,14 @@ module _ (ws : List ℕ) (head : GoodHead Kind.Mixed ws) (b : Body SectorFields)
 
   -- words that go on so are laid out
   pub mixed_laid : (more rest : List ℕ)
-      → drop mixed_head_length ws ++ more ≡ (body (mixed_mask_in ws) (mixed_count_in ws)).put b ++ (words_of n ++ (xs ++ rest))
+      → drop mixed_head_length ws ++ more ≡ (body (mixed_mask_in ws) (mixed_count_in ws)).put b ++ (option_to_list n ++ (xs ++ rest))
       → ws ++ more ≡ layout_mixed (mixed_of ws b n xs) ++ rest
   mixed_laid more rest e =
       let first = first_words Kind.Mixed ws (length (sectors_in b)) in
       let line = contour (fields_of (mixed_mask_in ws) b) in
-      laid Kind.Mixed ws head b ok more (words_of n ++ (xs ++ rest)) e
+      laid Kind.Mixed ws head b ok more (option_to_list n ++ (xs ++ rest)) e
       ∙ ap (λ (l : List ℕ). first ++ l)
-      (ap (λ (l : List ℕ). line ++ l) (sym (append_assoc (words_of n) xs rest)) ∙ sym (append_assoc line (words_of n ++ xs) rest))
+      (ap (λ (l : List ℕ). line ++ l) (sym (append_assoc (option_to_list n) xs rest)) ∙ sym (append_assoc line (option_to_list n ++ xs) rest))
 
 -- what a contour that is read has
 module _ {ws rest : List ℕ} (s : ContourParsed ws rest) where
@@ -81,7 +81,8 @@ module _ {ws rest : List ℕ} (s : CountParsed ws rest) where
   pub count_sound : Sound (one on) ws s.contour.place s.number s.start rest
   count_sound = sound_of (one on) (one_lawful on) ws s.contour.place (rw (contour_sound s.contour).rest s.parsed)
 
-  pub behind_words : drop mixed_head_length ws ≡ (body (mixed_mask_in ws) (mixed_count_in ws)).put (contour_read s.contour) ++ (words_of s.number ++ rest)
+  pub behind_words : drop mixed_head_length ws
+      ≡ (body (mixed_mask_in ws) (mixed_count_in ws)).put (contour_read s.contour) ++ (option_to_list s.number ++ rest)
   behind_words =
       let c = contour_sound s.contour in
       c.words
@@ -108,7 +109,8 @@ module _ {ws rest : List ℕ} (s : MixedParsed ws rest) where
       let split : s.reflectors ≡ take k s.reflectors ++ rest =
       sym (take-append-drop k s.reflectors) ∙ ap (λ (l : List ℕ). take k s.reflectors ++ l) s.left in
       let words = append-nil _ ∙ behind_words s.count
-      ∙ ap (λ (l : List ℕ). (body (mixed_mask_in ws) (mixed_count_in ws)).put (contour_read s.count.contour) ++ (words_of s.count.number ++ l)) split in
+      ∙ ap (λ (l : List ℕ). (body (mixed_mask_in ws) (mixed_count_in ws)).put (contour_read s.count.contour)
+      ++ (option_to_list s.count.number ++ l)) split in
       sym (append-nil ws)
       ∙ mixed_laid ws (contour_head s.count.contour) _ (contour_sound s.count.contour).fits s.count.number
       (count_sound s.count).fits s.few _ long [] rest words

@@ -8,11 +8,10 @@ use native.Mathlib.Omega.{arith}
 use lib.Dec.{T, eqb}
 use lib.ListN.{length, drop}
 use borrow.Author.Tests.{lt-leb, eqb-true, eqb-false}
-use Rattle.words.specs.declared.Word.{Word}
-use Rattle.words.specs.declared.Word.TheVariants.{Absent, Given}
+use Rattle.std.specs.Prelude.{Option, Some, None, option_to_list}
 use Rattle.words.specs.Bits.{bit}
 use Rattle.words.specs.Lists.{some, none, this}
-use Rattle.words.specs.Words.{words_of, number_of, given_if, Shaped}
+use Rattle.words.specs.Words.{number_of, given_if, Shaped}
 use Rattle.words.specs.Parse.{short, word}
 use Rattle.words.specs.Format.{many}
 use Rattle.words.proofs.Extends.{Extended, ExtendedOf, many_extends}
@@ -22,8 +21,8 @@ use Rattle.layout.specs.MixedMasks.{most_reflectors}
 use Rattle.layout.specs.Fields.{SectorFields}
 use Rattle.layout.specs.Layout.{contour}
 use Rattle.layout.specs.Mixed.{MixedFields, layout_mixed, MixedAcceptable, mixed_head_length}
-use Rattle.reader.specs.declared.MixedReading.{MixedReading}
-use Rattle.reader.specs.declared.MixedPlace.{MixedPlace}
+use Rattle.reader.specs.declared.MixedPart.{MixedPart}
+use Rattle.reader.specs.Said.{Place, MixedSaid}
 use Rattle.reader.specs.Readings.{Body, body}
 use Rattle.reader.specs.Mixed.{mixed_mask_in, mixed_count_in, mixed_head_refusal, refused_mixed, read_mixed_of}
 use Rattle.reader.specs.MixedParts.{head_of}
@@ -45,11 +44,11 @@ use Rattle.reader.proofs.MixedLaid.{mixed_fields, mixed_fit, mixed_laid_out}
 use Rattle.reader.proofs.MixedRoundTrip.{count_read, mixed_passes, mixed_reads}
 
 -- the word of bit 16, with a number that is not 0, is there
-number_there : (on : Bool) (n : Word) → Shaped on n → 0 < number_of n → T on × (words_of n ≡ number_of n ∷ [])
-number_there true (Given n) s h = (tt, refl)
-number_there true Absent s h = absurd s
-number_there false Absent s h = absurd (omega arith)
-number_there false (Given n) s h = absurd s
+number_there : (on : Bool) (n : Option ℕ) → Shaped on n → 0 < number_of n → T on × (option_to_list n ≡ number_of n ∷ [])
+number_there true (Some n) s h = (tt, refl)
+number_there true None s h = absurd s
+number_there false None s h = absurd (omega arith)
+number_there false (Some n) s h = absurd s
 
 -- it is missing where the words end
 number_missing : (on : Bool) (b : ℕ) (ws : List ℕ) → word on b ws ≡ short → T on × (ws ≡ [])
@@ -57,7 +56,7 @@ number_missing true b [] e = (tt, refl)
 number_missing true b (w ∷ ws) e = absurd (not_both (sym e))
 number_missing false b ws e = absurd (not_both (sym e))
 
-given_on : (on : Bool) (n : ℕ) → T on → Shaped on (Given n)
+given_on : (on : Bool) (n : ℕ) → T on → Shaped on (Some n)
 given_on true n t = tt
 given_on false n t = absurd t
 
@@ -88,14 +87,14 @@ module _ (ws : List ℕ) where
 
   -- words that go on so, to the end of a mixed profile, end early
   ends_early : (head : GoodHead Kind.Mixed ws) (b : Body SectorFields) → (body (mixed_mask_in ws) (mixed_count_in ws)).ok b
-      → (n : Word) → Shaped on n → number_of n ≤ most_reflectors → (xs : List ℕ) → length xs ≡ reflector_words ws n
+      → (n : Option ℕ) → Shaped on n → number_of n ≤ most_reflectors → (xs : List ℕ) → length xs ≡ reflector_words ws n
       → (more : List ℕ) → T (some more)
-      → drop mixed_head_length ws ++ more ≡ (body (mixed_mask_in ws) (mixed_count_in ws)).put b ++ (words_of n ++ xs)
+      → drop mixed_head_length ws ++ more ≡ (body (mixed_mask_in ws) (mixed_count_in ws)).put b ++ (option_to_list n ++ xs)
       → MixedEndEarly ws
   ends_early head b ok n shaped few xs long more t e =
       let put = (body (mixed_mask_in ws) (mixed_count_in ws)).put b in
       let words = mixed_laid ws head b ok n shaped few xs long more []
-      (e ∙ ap (λ (l : List ℕ). put ++ (words_of n ++ l)) (sym (append-nil xs))) ∙ append-nil _ in
+      (e ∙ ap (λ (l : List ℕ). put ++ (option_to_list n ++ l)) (sym (append-nil xs))) ∙ append-nil _ in
       (head.long, (mixed_of ws b n xs, more, mixed_acceptable ws head b ok n shaped few xs long, t, words))
 
   -- a contour that more words make whole, with no reflector
@@ -103,8 +102,8 @@ module _ (ws : List ℕ) where
   contour_cut head t =
       let none = given_if on 0 in
       ends_early head t.fields t.fits none (none_shaped on) (none_few on) [] (none_long on _)
-      (t.more ++ (words_of none ++ [])) (some_front t.more _ t.some_more)
-      (sym (append_assoc (drop mixed_head_length ws) t.more _) ∙ ap (λ (l : List ℕ). l ++ (words_of none ++ [])) t.words)
+      (t.more ++ (option_to_list none ++ [])) (some_front t.more _ t.some_more)
+      (sym (append_assoc (drop mixed_head_length ws) t.more _) ∙ ap (λ (l : List ℕ). l ++ (option_to_list none ++ [])) t.words)
     where
       some_front : {A : Type 0} (xs ys : List A) → T (some xs) → T (some (xs ++ ys))
       some_front [] ys t = absurd t
@@ -116,7 +115,7 @@ module _ (ws : List ℕ) where
       let c = contour_sound s in
       let t = number_missing on s.place rest e in
       let put = (body (mixed_mask_in ws) (mixed_count_in ws)).put (contour_read s) in
-      ends_early (contour_head s) (contour_read s) c.fits (Given 0) (given_on on 0 t.0) (omega arith) [] (sym (zero-mul _)) (0 ∷ []) tt
+      ends_early (contour_head s) (contour_read s) c.fits (Some 0) (given_on on 0 t.0) (omega arith) [] (sym (zero-mul _)) (0 ∷ []) tt
       (ap (λ (l : List ℕ). l ++ (0 ∷ [])) (c.words ∙ ap (λ (l : List ℕ). put ++ l) t.1 ∙ append-nil put))
 
   -- all but some words of reflectors: 0 for each
@@ -128,8 +127,9 @@ module _ (ws : List ℕ) where
       let put = (body (mixed_mask_in ws) (mixed_count_in ws)).put (contour_read s.contour) in
       ends_early (contour_head s.contour) (contour_read s.contour) (contour_sound s.contour).fits s.number (count_sound s).fits few
       t.fields t.fits t.more t.some_more
-      (ap (λ (l : List ℕ). l ++ t.more) (behind_words s) ∙ append_assoc put (words_of s.number ++ rest) t.more
-      ∙ ap (λ (l : List ℕ). put ++ l) (append_assoc (words_of s.number) rest t.more ∙ ap (λ (l : List ℕ). words_of s.number ++ l) t.words))
+      (ap (λ (l : List ℕ). l ++ t.more) (behind_words s) ∙ append_assoc put (option_to_list s.number ++ rest) t.more
+      ∙ ap (λ (l : List ℕ). put ++ l)
+      (append_assoc (option_to_list s.number) rest t.more ∙ ap (λ (l : List ℕ). option_to_list s.number ++ l) t.words))
 
   -- a count that says too many stands behind a contour
   many_there : {rest : List ℕ} (s : CountParsed ws rest) → most_reflectors < number_of s.number → TooMany ws
@@ -152,7 +152,7 @@ module _ (ws : List ℕ) where
       )
 
   -- the number by the head, or by the body
-  given : {r : MixedReading} → MixedOutcome ws r → GivenBy (mixed_head_refusal ws) r.refusal
+  given : {r : MixedSaid} → MixedOutcome ws r → GivenBy (mixed_head_refusal ws) r.refusal
   given (refused h) = by_head h
   given (cut_contour h p) = by_body h (λ t. t)
   given (cut_count s p) = by_body s.head (λ t. t)
@@ -162,7 +162,7 @@ module _ (ws : List ℕ) where
   given (whole s) = by_body s.count.contour.head (λ t. t)
 
   -- 15 says that the words end early
-  is_early : {r : MixedReading} → MixedOutcome ws r → r.refusal ≡ 15 → MixedEndEarly ws
+  is_early : {r : MixedSaid} → MixedOutcome ws r → r.refusal ≡ 15 → MixedEndEarly ws
   is_early (refused h) e = absurd (head_other Kind.Mixed ws e)
   is_early (cut_contour h p) e =
       let c = body (mixed_mask_in ws) (mixed_count_in ws) in
@@ -175,7 +175,7 @@ module _ (ws : List ℕ) where
   is_early (whole s) e = absurd (omega arith)
 
   -- 27 says that there are too many
-  is_many : {r : MixedReading} → MixedOutcome ws r → r.refusal ≡ 27 → TooMany ws
+  is_many : {r : MixedSaid} → MixedOutcome ws r → r.refusal ≡ 27 → TooMany ws
   is_many (refused h) e = absurd (head_other Kind.Mixed ws e)
   is_many (cut_contour h p) e = absurd (omega arith)
   is_many (cut_count s p) e = absurd (omega arith)
@@ -185,7 +185,7 @@ module _ (ws : List ℕ) where
   is_many (whole s) e = absurd (omega arith)
 
   -- 16 says that words are left over
-  is_over : {r : MixedReading} → MixedOutcome ws r → r.refusal ≡ 16 → MixedLeftOver ws
+  is_over : {r : MixedSaid} → MixedOutcome ws r → r.refusal ≡ 16 → MixedLeftOver ws
   is_over (refused h) e = absurd (head_other Kind.Mixed ws e)
   is_over (cut_contour h p) e = absurd (omega arith)
   is_over (cut_count s p) e = absurd (omega arith)
@@ -195,7 +195,7 @@ module _ (ws : List ℕ) where
   is_over (whole s) e = absurd (omega arith)
 
   -- a refused reading has nothing but its number and its place
-  is_blank : {r : MixedReading} → MixedOutcome ws r → (r.refusal ≡ 0 → ⊥) → r ≡ refused_mixed r.refusal r.place
+  is_blank : {r : MixedSaid} → MixedOutcome ws r → (r.refusal ≡ 0 → ⊥) → r ≡ refused_mixed r.refusal r.place
   is_blank (refused h) n = refl
   is_blank (cut_contour h p) n = refl
   is_blank (cut_count s p) n = refl
@@ -209,8 +209,8 @@ many_is : (ws : List ℕ) → TooMany ws → (read_mixed_of ws).refusal ≡ 27
 many_is ws t =
     let f = t.0 in
     let n = t.1 in
-    let s = count_read f t.3 (n ∷ t.2) (Given n) (given_on (bit f.contour.mask bits.reflectors) n t.4) t.2 refl in
-    ap (λ (v : List ℕ). (read_mixed_of v).refusal) t.6 ∙ ap (λ (r : MixedReading). r.refusal) (by_many _ s t.5)
+    let s = count_read f t.3 (n ∷ t.2) (Some n) (given_on (bit f.contour.mask bits.reflectors) n t.4) t.2 refl in
+    ap (λ (v : List ℕ). (read_mixed_of v).refusal) t.6 ∙ ap (λ (r : MixedSaid). r.refusal) (by_many _ s t.5)
 
 more_behind : (ws more : List ℕ) → TooMany ws → TooMany (ws ++ more)
 more_behind ws more t =
@@ -237,7 +237,7 @@ module _ (ws : List ℕ) (early : MixedEndEarly ws) where
   -- the first four words are a mixed profile's
   passes : mixed_head_refusal ws ≡ 0
   passes =
-      sym (head_front Kind.Mixed ws more early.0) ∙ ap mixed_head_refusal is ∙ mixed_passes f early.1.2 (words_of f.count ++ f.reflectors)
+      sym (head_front Kind.Mixed ws more early.0) ∙ ap mixed_head_refusal is ∙ mixed_passes f early.1.2 (option_to_list f.count ++ f.reflectors)
 
   -- what was read would be a mixed profile within a mixed profile
   not_read : {rest : List ℕ} → MixedParsed ws rest → ⊥
@@ -252,7 +252,7 @@ module _ (ws : List ℕ) (early : MixedEndEarly ws) where
       omega arith
 
   -- words that end early are refused by 15
-  early_is : {r : MixedReading} → MixedOutcome ws r → r.refusal ≡ 15
+  early_is : {r : MixedSaid} → MixedOutcome ws r → r.refusal ≡ 15
   early_is (refused h) = absurd (h passes)
   early_is (cut_contour h p) = refl
   early_is (cut_count s p) = refl
@@ -276,7 +276,7 @@ module _ (ws : List ℕ) where
   blank = is_blank ws (mixed_outcome ws)
 
   -- what a refused reading has none of is found in accepted ones alone
-  has_some : (part : MixedReading → ℕ) → ((n : ℕ) (p : MixedPlace) → part (refused_mixed n p) ≡ 0) → 0 < part (read_mixed_of ws)
+  has_some : (part : MixedSaid → ℕ) → ((n : ℕ) (p : Place MixedPart) → part (refused_mixed n p) ≡ 0) → 0 < part (read_mixed_of ws)
       → (read_mixed_of ws).refusal ≡ 0
   has_some part zero-there h = go (eqb (read_mixed_of ws).refusal 0) refl
     where

@@ -18,10 +18,9 @@ use Rattle.layout.specs.Fields.{SectorFields, Fields}
 use Rattle.layout.specs.Layout.{profile_code, one_layer, contour, layout}
 use Rattle.layout.specs.Mixed.{MixedFields, mixed_head_length, reflector_part, layout_mixed, MixedAcceptable}
 use Rattle.reader.specs.declared.SectorReading.{SectorReading}
-use Rattle.reader.specs.declared.MixedReading.{MixedReading}
 use Rattle.reader.specs.declared.MixedPart.{MixedPart}
 use Rattle.reader.specs.declared.MixedPart.TheVariants.{Contour, Count, Reflector}
-use Rattle.reader.specs.declared.MixedPlace.TheVariants.{At}
+use Rattle.reader.specs.Said.{At, MixedSaid}
 use Rattle.reader.specs.Endings.{part_missing}
 use Rattle.reader.specs.Readings.{Body, body}
 use Rattle.reader.specs.Mixed.{mixed_mask_in, mixed_info_in, mixed_count_in, plain_of, mixed_place_numbers}
@@ -155,7 +154,7 @@ abbrev Named : List ℕ → MixedPart → Type 0
 Named ws p = (f : MixedFields) (more : List ℕ) → MixedAcceptable f → ws ++ more ≡ layout_mixed f → MixedBelongs f (length ws) p
 
 module _ (ws : List ℕ) where
-  placed : {r : MixedReading} → MixedOutcome ws r → r.refusal ≡ 15 → (p : MixedPart) × (r.place ≡ At (length ws) p) × Named ws p
+  placed : {r : MixedSaid} → MixedOutcome ws r → r.refusal ≡ 15 → (p : MixedPart) × (r.place ≡ At (length ws) p) × Named ws p
   placed (refused h) e = absurd (head_other Kind.Mixed ws e)
   placed (cut_contour h p) e = (_, refl, λ f more a is. in_contour f a ws more is (head_long Kind.Mixed ws h) p)
   placed (cut_count s p) e = (Count, refl, λ f more a is. at_count f a ws more is (head_long Kind.Mixed ws s.head) s p)
@@ -164,7 +163,7 @@ module _ (ws : List ℕ) where
   placed (over s) e = absurd (omega arith)
   placed (whole s) e = absurd (omega arith)
 
-  unplaced : {r : MixedReading} → MixedOutcome ws r → (r.refusal ≡ 15 → ⊥) → (mixed_place_numbers r.place).part ≡ 0
+  unplaced : {r : MixedSaid} → MixedOutcome ws r → (r.refusal ≡ 15 → ⊥) → (mixed_place_numbers r.place).part ≡ 0
   unplaced (refused h) n = refl
   unplaced (cut_contour h p) n = absurd (n refl)
   unplaced (cut_count s p) n = absurd (n refl)

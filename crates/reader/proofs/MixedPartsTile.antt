@@ -7,7 +7,8 @@ use native.Mathlib.Omega.{arith}
 use lib.Dec.{ltb}
 use lib.ListN.{length, take, drop, length-take, length-drop, length-append}
 use borrow.Author.Tests.{ltb-true, ltb-false}
-use Rattle.words.specs.Words.{words_of, number_of}
+use Rattle.std.specs.Prelude.{option_to_list}
+use Rattle.words.specs.Words.{number_of}
 use Rattle.layout.specs.Fields.{Fields}
 use Rattle.layout.specs.Layout.{layout}
 use Rattle.layout.specs.Mixed.{MixedFields, layout_mixed}
@@ -41,7 +42,7 @@ module _ (f : MixedFields) where
   to_count = suc (length (layout c))
 
   abbrev pub to_reflectors : ℕ
-  to_reflectors = to_count + length (words_of f.count)
+  to_reflectors = to_count + length (option_to_list f.count)
 
   before_reflector : (r : ℕ) → length (in_front_of f (Reflector r)) ≡ to_reflectors + length (take (r * width_of f) f.reflectors)
   before_reflector r = simp length-append (omega arith)

@@ -8,10 +8,10 @@ use native.Mathlib.Omega.{arith}
 use lib.Dec.{T}
 use lib.ListN.{length, take, drop, length-append}
 use lib.Seq.{take_at, drop_at}
-use Rattle.words.specs.declared.Word.{Word}
+use Rattle.std.specs.Prelude.{Option, option_to_list}
 use Rattle.words.specs.Bits.{bit}
 use Rattle.words.specs.Lists.{some}
-use Rattle.words.specs.Words.{words_of, number_of, Shaped}
+use Rattle.words.specs.Words.{number_of, Shaped}
 use Rattle.words.specs.Parse.{Got, got, word}
 use Rattle.words.specs.Format.{one}
 use Rattle.words.proofs.Lawful.{Complete, one_lawful}
@@ -20,7 +20,7 @@ use Rattle.layout.specs.declared.Kind.{Kind}
 use Rattle.layout.specs.MixedMasks.{reflector_width}
 use Rattle.layout.specs.Layout.{contour}
 use Rattle.layout.specs.Mixed.{MixedFields, layout_mixed, MixedAcceptable, mixed_head_length}
-use Rattle.reader.specs.declared.MixedReading.{MixedReading}
+use Rattle.reader.specs.Said.{MixedSaid}
 use Rattle.reader.specs.Readings.{sectors_in, body}
 use Rattle.reader.specs.Mixed.{mixed_head_refusal, accepted_mixed, mixed_left, read_mixed_of}
 use Rattle.reader.specs.MixedParts.{head_of}
@@ -53,14 +53,14 @@ module _ (f : MixedFields) (w : MixedAcceptable f) (post : List ℕ) where
       }
 
   -- and the word of bit 16 behind it
-  module _ (n : Word) (shaped : Shaped (bit f.contour.mask bits.reflectors) n) (rest : List ℕ) (is : post ≡ words_of n ++ rest) where
+  module _ (n : Option ℕ) (shaped : Shaped (bit f.contour.mask bits.reflectors) n) (rest : List ℕ) (is : post ≡ option_to_list n ++ rest) where
     abbrev on : Bool
     on = bit f.contour.mask bits.reflectors
 
     pub count_back : Complete (one on) up_to mixed_back.place n rest
     count_back = (one_lawful on).complete up_to mixed_back.place n rest shaped (mixed_back.behind ∙ is)
 
-    abbrev count_word : ℕ → List ℕ → Got Word
+    abbrev count_word : ℕ → List ℕ → Got (Option ℕ)
     count_word mask ws = word (bit mask bits.reflectors) mixed_back.place ws
 
     abbrev pub count_read : CountParsed up_to rest
@@ -72,13 +72,13 @@ module _ (f : MixedFields) (w : MixedAcceptable f) (post : List ℕ) where
           start = count_back.place;
           parsed =
               (λ j. count_word (sym w.fits.mask j) (sym mixed_back.behind j))
-              ∙ count_back.reads ∙ ap (λ (v : Word). got v count_back.place rest) count_back.same;
+              ∙ count_back.reads ∙ ap (λ (v : Option ℕ). got v count_back.place rest) count_back.same;
         }
 
 -- what is laid out is read, with the fields that were laid out, and what stands behind it is left over
 module _ (f : MixedFields) (w : MixedAcceptable f) (more : List ℕ) where
   abbrev W : List ℕ
-  W = up_to f w (words_of f.count ++ (f.reflectors ++ more))
+  W = up_to f w (option_to_list f.count ++ (f.reflectors ++ more))
 
   abbrev found : CountParsed W (f.reflectors ++ more)
   found = count_read f w _ f.count w.fits.count (f.reflectors ++ more) refl
@@ -87,13 +87,13 @@ module _ (f : MixedFields) (w : MixedAcceptable f) (more : List ℕ) where
   words =
       let line = contour f.contour in
       ap (λ (l : List ℕ). head_of f ++ l)
-      (ap (λ (l : List ℕ). line ++ l) (sym (append_assoc (words_of f.count) f.reflectors more))
-      ∙ sym (append_assoc line (words_of f.count ++ f.reflectors) more))
+      (ap (λ (l : List ℕ). line ++ l) (sym (append_assoc (option_to_list f.count) f.reflectors more))
+      ∙ sym (append_assoc line (option_to_list f.count ++ f.reflectors) more))
 
   long : length f.reflectors ≡ reflector_words W f.count
   long = w.fits.reflectors ∙ ap (λ (m : ℕ). number_of f.count * reflector_width m) w.fits.mask
 
-  abbrev whole : MixedReading
+  abbrev whole : MixedSaid
   whole = accepted_mixed W found.contour.value f.count found.start
 
   read_whole : read_mixed_of W ≡ mixed_left whole more
@@ -105,7 +105,7 @@ module _ (f : MixedFields) (w : MixedAcceptable f) (more : List ℕ) where
 
   same_contour : contour_in W whole ≡ f.contour
   same_contour =
-      let post = words_of f.count ++ (f.reflectors ++ more) in
+      let post = option_to_list f.count ++ (f.reflectors ++ more) in
       let back = mixed_back f w post in
       rw (
         counts f.contour w.contour,
@@ -116,7 +116,7 @@ module _ (f : MixedFields) (w : MixedAcceptable f) (more : List ℕ) where
 
   same_reflectors : take (reflector_words W f.count) (drop found.start W) ≡ f.reflectors
   same_reflectors =
-      let post = words_of f.count ++ (f.reflectors ++ more) in
+      let post = option_to_list f.count ++ (f.reflectors ++ more) in
       ap (take (reflector_words W f.count)) (count_back f w post f.count w.fits.count (f.reflectors ++ more) refl).behind
       ∙ take_at f.reflectors more (reflector_words W f.count) long
 
@@ -133,11 +133,11 @@ pub mixed_reads_back : MixedReadsBack
 mixed_reads_back f w =
     subst (λ (ws : List ℕ). ((read_mixed_of ws).refusal ≡ 0) × (mixed_fields_in ws (read_mixed_of ws) ≡ f))
     (words f w [] ∙ append-nil (layout_mixed f))
-    (ap (λ (r : MixedReading). r.refusal) (read_whole f w []), ap (mixed_fields_in (W f w [])) (read_whole f w []) ∙ same_mixed f w [])
+    (ap (λ (r : MixedSaid). r.refusal) (read_whole f w []), ap (mixed_fields_in (W f w [])) (read_whole f w []) ∙ same_mixed f w [])
 
 over_read : (f : MixedFields) → MixedAcceptable f → (more : List ℕ) → T (some more) → (read_mixed_of (layout_mixed f ++ more)).refusal ≡ 16
 over_read f w [] t = absurd t
-over_read f w (x ∷ xs) t = ap (λ (r : MixedReading). r.refusal) (mixed_reading f w (x ∷ xs))
+over_read f w (x ∷ xs) t = ap (λ (r : MixedSaid). r.refusal) (mixed_reading f w (x ∷ xs))
 
 whole_laid : (ws : List ℕ) (s : MixedAccepted ws) → ws ≡ layout_mixed (mixed_fields s)
 whole_laid ws s = mixed_laid_out s ∙ append-nil (layout_mixed (mixed_fields s))

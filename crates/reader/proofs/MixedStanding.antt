@@ -4,7 +4,7 @@ use mathlib.Core.List.{List}
 use native.Mathlib.Omega.{arith}
 use borrow.Author.Tests.{lt-ltb}
 use Rattle.layout.specs.Mixed.{mixed_head_length}
-use Rattle.reader.specs.declared.MixedReading.{MixedReading}
+use Rattle.reader.specs.Said.{MixedSaid}
 use Rattle.reader.specs.Mixed.{mixed_mask_in, mixed_count_in, read_mixed_of}
 use Rattle.reader.specs.MixedStretches.{mixed_stretch_of, mixed_stretch_start}
 use Rattle.reader.specs.MixedDemands.{MixedNoPoints, MixedStandsAtPlace}
@@ -17,7 +17,7 @@ use Rattle.reader.proofs.Standing.{stands_behind}
 pub mixed_whole : (ws : List ℕ) → 0 < (read_mixed_of ws).count → MixedAccepted ws
 mixed_whole ws = go (mixed_outcome ws)
   where
-    go : {r : MixedReading} → MixedOutcome ws r → 0 < r.count → MixedAccepted ws
+    go : {r : MixedSaid} → MixedOutcome ws r → 0 < r.count → MixedAccepted ws
     go (refused h) e = absurd (omega arith)
     go (cut_contour h p) e = absurd (omega arith)
     go (cut_count s p) e = absurd (omega arith)

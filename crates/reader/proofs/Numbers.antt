@@ -10,7 +10,7 @@ use Rattle.words.proofs.Extends.{Extended, ExtendedOf}
 use Rattle.layout.specs.declared.Kind.{Kind}
 use Rattle.layout.specs.Fields.{Fields}
 use Rattle.layout.specs.Layout.{layout, Acceptable, head_length}
-use Rattle.reader.specs.declared.Reading.{Reading}
+use Rattle.reader.specs.Said.{Said}
 use Rattle.reader.specs.Readings.{mask_in, count_in, head_refusal, body, refused_reading, read_of}
 use Rattle.reader.specs.Stretches.{stretch_refusal_of, stretch_of}
 use Rattle.reader.specs.Demands.{head_numbers, EndEarly, LeftOver, RefusalsExactly, RefusalsGiveNothing, StretchNumbers}
@@ -31,14 +31,14 @@ module _ (ws : List ℕ) where
       (h.long, (fields_of (mask_in ws) t.fields, t.more, acceptable Kind.Plain ws h t.fields t.fits, t.some_more, words))
 
   -- every number but 0, 15 and 16 is the head's
-  given : {r : Reading} → Outcome ws r → GivenBy (head_refusal ws) r.refusal
+  given : {r : Said} → Outcome ws r → GivenBy (head_refusal ws) r.refusal
   given (refused h) = by_head h
   given (cut h p) = by_body (good_passes Kind.Plain ws h) (λ t. t)
   given (over s) = by_body (good_passes Kind.Plain ws s.head) (λ t. t)
   given (whole s) = by_body (good_passes Kind.Plain ws s.head) (λ t. t)
 
   -- 15 says that the words end early
-  is_early : {r : Reading} → Outcome ws r → r.refusal ≡ 15 → EndEarly ws
+  is_early : {r : Said} → Outcome ws r → r.refusal ≡ 15 → EndEarly ws
   is_early (refused h) e = absurd (head_other Kind.Plain ws e)
   is_early (cut h p) e =
       early_laid h (subst (ExtendedOf (body (mask_in ws) (count_in ws)) (drop head_length ws)) p
@@ -56,21 +56,21 @@ module _ (ws : List ℕ) where
     not_read {rest} s = none_within plain_reads ws f more w t is (fields s) rest (fields_fit s) (laid_out s)
 
     -- words that end early are refused by 15
-    early_is : {r : Reading} → Outcome ws r → r.refusal ≡ 15
+    early_is : {r : Said} → Outcome ws r → r.refusal ≡ 15
     early_is (refused h) = absurd (h passes)
     early_is (cut h p) = refl
     early_is (over s) = absurd (not_read s)
     early_is (whole s) = absurd (not_read s)
 
   -- 16 says that words are left over
-  is_over : {r : Reading} → Outcome ws r → r.refusal ≡ 16 → LeftOver ws
+  is_over : {r : Said} → Outcome ws r → r.refusal ≡ 16 → LeftOver ws
   is_over (refused h) e = absurd (head_other Kind.Plain ws e)
   is_over (cut h p) e = absurd (omega arith)
   is_over (over {w} {rest} s) e = (fields s, w ∷ rest, fields_fit s, tt, laid_out s)
   is_over (whole s) e = absurd (omega arith)
 
   -- a refused reading has nothing but its number and its place
-  is_blank : {r : Reading} → Outcome ws r → (r.refusal ≡ 0 → ⊥) → r ≡ refused_reading r.refusal r.place
+  is_blank : {r : Said} → Outcome ws r → (r.refusal ≡ 0 → ⊥) → r ≡ refused_reading r.refusal r.place
   is_blank (refused h) n = refl
   is_blank (cut h p) n = refl
   is_blank (over s) n = refl

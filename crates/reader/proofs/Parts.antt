@@ -16,9 +16,9 @@ use Rattle.layout.specs.Bits as bits
 use Rattle.layout.specs.Fields.{Fields}
 use Rattle.layout.specs.Layout.{layout_sector, status, layout, Acceptable, head_length, one_layer}
 use Rattle.layout.proofs.LayoutLengths.{word_length}
-use Rattle.reader.specs.declared.Reading.{Reading}
 use Rattle.reader.specs.declared.Part.{Part}
 use Rattle.reader.specs.declared.Part.TheVariants.{Head}
+use Rattle.reader.specs.Said.{Said}
 use Rattle.reader.specs.Sectors.{sector}
 use Rattle.reader.specs.Endings.{head_words, whole_sectors, place_numbers, part_missing}
 use Rattle.reader.specs.Readings.{mask_in, count_in, end_of, read_of}
@@ -129,13 +129,13 @@ module _ (ws : List ℕ) where
       record { in_one = (e.0, e.1, e.2, e.4, every e.0 e.1 e.2 e.4); in_every = every }
 
   -- the place that a reading has
-  placed : {r : Reading} → Outcome ws r → r.refusal ≡ 15 → r.place ≡ end_of ws
+  placed : {r : Said} → Outcome ws r → r.refusal ≡ 15 → r.place ≡ end_of ws
   placed (refused h) e = absurd (head_other Kind.Plain ws e)
   placed (cut h p) e = refl
   placed (over s) e = absurd (omega arith)
   placed (whole s) e = absurd (omega arith)
 
-  unplaced : {r : Reading} → Outcome ws r → (r.refusal ≡ 15 → ⊥) → (place_numbers r.place).part ≡ 0
+  unplaced : {r : Said} → Outcome ws r → (r.refusal ≡ 15 → ⊥) → (place_numbers r.place).part ≡ 0
   unplaced (refused h) n = refl
   unplaced (cut h p) n = absurd (n refl)
   unplaced (over s) n = refl

@@ -8,8 +8,7 @@ use native.Mathlib.Nat.{zero-mul, mul-zero}
 use native.Mathlib.Omega.{arith}
 use lib.ListN.{length, get_or, drop}
 use borrow.Author.Tests.{lt-ltb}
-use Rattle.words.specs.declared.Word.{Word}
-use Rattle.words.specs.declared.Word.TheVariants.{Absent, Given}
+use Rattle.std.specs.Prelude.{Option, Some, None}
 use Rattle.words.specs.Bits.{bit}
 use Rattle.words.specs.Words.{number_of, Shaped}
 use Rattle.words.specs.Parse.{got}
@@ -24,10 +23,10 @@ use Rattle.reader.specs.Demands.{NoPoints}
 use Rattle.reader.proofs.FoundSectors.{found_ok}
 use Rattle.reader.proofs.PointPlaces.{whole}
 
-left_out : (on : Bool) (w : Word) → Shaped on w → on ≡ false → number_of w ≡ 0
-left_out on Absent h e = refl
-left_out true (Given w) h e = absurd (let z : ◌≡◌ {A = ℕ} 0 1 = cc in omega arith)
-left_out false (Given w) h e = absurd h
+left_out : (on : Bool) (w : Option ℕ) → Shaped on w → on ≡ false → number_of w ≡ 0
+left_out on None h e = refl
+left_out true (Some w) h e = absurd (let z : ◌≡◌ {A = ℕ} 0 1 = cc in omega arith)
+left_out false (Some w) h e = absurd h
 
 no_length : (l : List ℕ) → length l ≡ 0 → l ≡ []
 no_length [] e = refl

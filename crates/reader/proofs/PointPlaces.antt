@@ -1,24 +1,30 @@
 -- Where the points of a sector stand: within the words given, and nowhere where the mask leaves them out.
-use Prim.Native.Nat.{ℕ, ◌+◌, ◌-◌, ◌*◌, ◌≤◌, ◌<◌}
-use mathlib.Core.Path.{◌≡◌, subst}
+use Prim.Native.Nat.{ℕ, ◌+◌, ◌*◌, ◌≤◌, ◌<◌, zero-le}
+use mathlib.Core.Path.{◌≡◌, refl, ◌∙◌, ap, subst}
 use mathlib.Core.List.{List, []}
 use native.Mathlib.Omega.{arith}
-use lib.ListN.{length, get_or, take, drop, length-drop}
+use lib.ListN.{length, get_or, drop, length-drop}
 use denote.Ref.{Bor}
 use borrow.Author.Tests.{le-ltb}
+use Rattle.std.specs.Prelude.{Result, Ok, Err, IsErrAnd}
+use Rattle.std.proofs.lemmas.Result.{err_from_is_err_and}
 use Rattle.words.specs.Parse.{got}
 use Rattle.words.proofs.Each.{each_at}
 use Rattle.words.proofs.Lawful.{InsideOf}
 use Rattle.layout.specs.Layout.{head_length}
 use Rattle.reader.specs.declared.SectorReading.{SectorReading}
+use Rattle.reader.specs.declared.Part.{Part}
 use Rattle.reader.specs.declared.Reading.{Reading}
+use Rattle.reader.specs.declared.ReadRefusal.{ReadRefusal}
+use Rattle.reader.specs.Said.{Said}
 use Rattle.reader.specs.Sectors.{blank_sector}
-use Rattle.reader.specs.Readings.{mask_in, count_in, Body, sectors_in, body, padded, read_of}
-use Rattle.reader.specs.Stretches.{stretch_refusal_of, stretch_of, stretch_start, StretchSays}
+use Rattle.reader.specs.Readings.{mask_in, count_in, Body, sectors_in, body, padded, read_of, said, ReadSays}
+use Rattle.reader.specs.Stretches.{stretch_refusal_of, stretch_of, stretch_start, StretchRefusalSays, StretchSays}
+use Rattle.reader.specs.Lent.{found_below, StretchesWithin, PointsSay}
 use Rattle.reader.proofs.Bodies.{body_lawful, sectors_inside}
 use Rattle.reader.proofs.Accepted.{Accepted, accepted, has_sector}
 use Rattle.reader.proofs.FoundSectors.{found_many, found_at}
-use Rattle.reader.proofs.Lent.{refused_first, is_below, not_below, part_lent, none_lent}
+use Rattle.reader.proofs.Lent.{reader_first, place_next}
 
 -- of a body that is read from some place on: a sector's points end within the words
 pub points_inside : (ws : List ℕ) (mask count first : ℕ) {value : Body SectorReading} {end : ℕ} {rest : List ℕ}
@@ -47,45 +53,43 @@ module _ (ws : List ℕ) (place : ℕ) (here : place < (read_of ws).count) where
   in_words : (let s = get_or (read_of ws).sectors place blank_sector in s.start + s.len ≤ length ws)
   in_words = rw whole.reading (points_inside ws (mask_in ws) (count_in ws) head_length whole.parsed whole.head.long place below)
 
--- the same of what a reader holds
-module _ (ws : List ℕ) (place : ℕ) (r : Reading) (is : r ≡ read_of ws) where
-  pub below_eight : place < r.count → place < 8
-  below_eight h = in_eight ws place (rw is at h)
+-- what a reader holds: its sectors' points are within the words
+module _ (ws : List ℕ) (r : Said) (is : r ≡ read_of ws) where
+  eight : r.refusal ≡ 0 → r.count ≤ 8
+  eight e = let w = accepted ws (rw is at e) in omega (arith, ap (λ (s : Said). s.count) (is ∙ w.reading), w.head.few)
 
-  pub ends : place < r.count → (get_or r.sectors place blank_sector).start + (get_or r.sectors place blank_sector).len ≤ length ws
-  ends h = rw is (in_words ws place (rw is at h))
+  ends : (place : ℕ) → place < r.count → (let s = get_or r.sectors place blank_sector in s.start + s.len ≤ length ws)
+  ends place h = rw is (in_words ws place (rw is at h))
 
-  pub no_stretch : r.count ≤ place → [] ≡ stretch_of ws place
-  unfolding stretch_of
-  no_stretch h = rw (← is, le-ltb place r.count h)
+module _ (ws : List ℕ) (r : Reading) (is : ReadSays ws (Ok r)) where
+  pub points_within : StretchesWithin ws r.contour
+  points_within = (eight ws (said (Ok r)) is refl, ends ws (said (Ok r)) is)
 
-  -- the number for no of a stretch
-  pub refused_reading : (r.refusal ≡ 0 → ⊥) → r.refusal ≡ stretch_refusal_of ws place
+-- why `stretch` hands nothing back
+module _ (ws : List ℕ) (place : ℕ) where
+  pub stretch_first : (e : ReadRefusal Part) → ReadSays ws (Err e) → StretchRefusalSays ws place (Err e)
   unfolding stretch_refusal_of
-  refused_reading h = rw (← is) (refused_first r.refusal r.count place h)
+  stretch_first e is = rw (← is) (reader_first 0 place e)
 
-  pub has_stretch : r.refusal ≡ 0 → place < r.count → 0 ≡ stretch_refusal_of ws place
+  pub stretch_next : (r : Reading) → ReadSays ws (Ok r) → StretchRefusalSays ws place (found_below place r.contour.count)
   unfolding stretch_refusal_of
-  has_stretch e h = rw (← is) (is_below r.refusal r.count place e h)
+  stretch_next r is = rw (← is) (place_next r.contour.count place)
 
-  pub past_sectors : r.refusal ≡ 0 → r.count ≤ place → 17 ≡ stretch_refusal_of ws place
-  unfolding stretch_refusal_of
-  past_sectors e h = rw (← is) (not_below r.refusal r.count place e h)
+  module _ {read : Result Reading (ReadRefusal Part)} (is : ReadSays ws read) {x : Result (Unit {0}) (ReadRefusal Part)} where
+    pub stretch_refused : {e : ReadRefusal Part} → read ≡ Err e → IsErrAnd x (λ d. d ≡ e) → StretchRefusalSays ws place x
+    stretch_refused {e} was err = let p = err_from_is_err_and x err in rw (p.1, p.2) (stretch_first e (rw was at is))
 
--- the part of the words that `stretch` lends, by the two ways out
-module _ (words : Bor (List ℕ)) (place : ℕ) (r : Reading) (is : r ≡ read_of words.now) (part : Bor (List ℕ)) where
-  abbrev s : SectorReading
-  s = get_or r.sectors place blank_sector
+    pub stretch_asked : {r : Reading} → read ≡ Ok r → x ≡ found_below place r.contour.count → StretchRefusalSays ws place x
+    stretch_asked {r} was e = rw e (stretch_next r (rw was at is))
 
-  pub points_lent : place < r.count → part.now ≡ take (s.start + s.len - s.start) (drop s.start words.now)
-      → part.ref_ptr ≡ (words.ref_ptr.0, s.start * 2 + words.ref_ptr.1) → StretchSays words place part
+-- the part of the words that it lends
+module _ (words : Bor (List ℕ)) (place : ℕ) (part : Bor (List ℕ)) where
+  pub stretch_lent : (r : Reading) → ReadSays words.now (Ok r) → PointsSay words r.contour place part → StretchSays words place part
   unfolding stretch_of stretch_start
-  points_lent h e p =
-      let l = part_lent words r.count place s.start s.len part h e p in
-      record { lends = rw (← is) l.lends; stands = rw (← is) l.stands }
+  stretch_lent r is l = record { lends = rw (← is) l.lends; stands = rw (← is) l.stands }
 
-  pub nothing_lent : r.count ≤ place → part.now ≡ [] → part.ref_ptr ≡ (words.ref_ptr.0, 0 * 2 + words.ref_ptr.1) → StretchSays words place part
+  pub nothing_lent : (e : ReadRefusal Part) → ReadSays words.now (Err e) → part.now ≡ []
+      → part.ref_ptr ≡ (words.ref_ptr.0, 0 * 2 + words.ref_ptr.1)
+      → StretchSays words place part
   unfolding stretch_of stretch_start
-  nothing_lent h e p =
-      let l = none_lent words r.count place s.start s.len part h e p in
-      record { lends = rw (← is) l.lends; stands = rw (← is) l.stands }
+  nothing_lent e is n p = record { lends = rw (← is, le-ltb place 0 zero-le) n; stands = rw (← is, le-ltb place 0 zero-le) p }

@@ -13,7 +13,7 @@ use Rattle.words.specs.Parse.{Got, short, got}
 use Rattle.words.specs.Format.{Format, AllOk}
 use Rattle.words.proofs.Lawful.{Sound, SoundOf, Complete, Lawful}
 use Rattle.reader.specs.Endings.{one_more_of, wholes}
-use Rattle.reader.specs.Places.{value_of}
+use Rattle.reader.proofs.Bodies.{value_of}
 
 -- what is behind a front that is shorter
 pub front_of : {A : Type 0} (xs ys us vs : List A) → xs ++ us ≡ ys ++ vs → length ys ≤ length xs → xs ≡ ys ++ drop (length ys) xs

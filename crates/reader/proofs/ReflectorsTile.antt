@@ -7,8 +7,9 @@ use native.Mathlib.Omega.{arith}
 use lib.ListN.{length, take, drop, length-drop, length-append}
 use lib.Seq.{length-take-le, take-add, drop-drop}
 use borrow.Author.Tests.{lt-ltb}
+use Rattle.std.specs.Prelude.{option_to_list}
 use Rattle.words.specs.Bits.{bit}
-use Rattle.words.specs.Words.{words_of, number_of}
+use Rattle.words.specs.Words.{number_of}
 use Rattle.words.specs.Buffers.{in_turn}
 use Rattle.words.specs.Format.{Format, one}
 use Rattle.words.proofs.Lawful.{Sound, KeptOf, one_lawful}
@@ -19,8 +20,8 @@ use Rattle.layout.specs.Fields.{SectorFields}
 use Rattle.layout.specs.Layout.{contour}
 use Rattle.layout.specs.MixedMasks.{reflector_width}
 use Rattle.layout.specs.Mixed.{mixed_head_length}
-use Rattle.reader.specs.declared.MixedReading.{MixedReading}
 use Rattle.reader.specs.declared.SectorReading.{SectorReading}
+use Rattle.reader.specs.Said.{MixedSaid}
 use Rattle.reader.specs.Readings.{Body, body}
 use Rattle.reader.specs.Mixed.{mixed_mask_in, mixed_count_in, accepted_mixed}
 use Rattle.reader.specs.MixedStretches.{reflectors_of, reflector_of, contour_in, words_before_reflectors}
@@ -45,17 +46,17 @@ number_sound {ws} s =
     sound_of (one on) (one_lawful on) ws s.contour.place (ap (word on s.contour.place) behind ∙ s.parsed)
 
 -- it begins behind the contour, and the reflectors behind it
-number_start : {ws rest : List ℕ} (s : CountParsed ws rest) → s.start ≡ s.contour.place + length (words_of s.number)
+number_start : {ws rest : List ℕ} (s : CountParsed ws rest) → s.start ≡ s.contour.place + length (option_to_list s.number)
 number_start {ws} {rest} s =
     let on = bit (mixed_mask_in ws) bits.reflectors in
     let kept = subst (KeptOf s.contour.place s.behind) s.parsed ((one_lawful on).kept s.contour.place s.behind) in
     let behind = (found_sound ws (mixed_mask_in ws) (mixed_count_in ws) mixed_head_length s.contour.parsed).rest in
-    let words : length s.behind ≡ length (words_of s.number) + length rest =
-    ap length (sym behind ∙ (number_sound s).words) ∙ length-append (words_of s.number) rest in
+    let words : length s.behind ≡ length (option_to_list s.number) + length rest =
+    ap length (sym behind ∙ (number_sound s).words) ∙ length-append (option_to_list s.number) rest in
     omega arith
 
 module _ (ws : List ℕ) (s : MixedAccepted ws) where
-  abbrev r : MixedReading
+  abbrev r : MixedSaid
   r = accepted_mixed ws s.count.contour.value s.count.number s.count.start
 
   abbrev n : ℕ
@@ -83,7 +84,7 @@ module _ (ws : List ℕ) (s : MixedAccepted ws) where
       omega (arith, both, ap length contour_laid, found_kept ws (mixed_mask_in ws) (mixed_count_in ws) mixed_head_length found)
 
   starts : s.count.start ≡ length (words_before_reflectors ws r)
-  starts = omega (arith, contour_long, number_start s.count, length-append (contour (contour_in ws r)) (words_of s.count.number))
+  starts = omega (arith, contour_long, number_start s.count, length-append (contour (contour_in ws r)) (option_to_list s.count.number))
 
   within : (place : ℕ) → place < n → width ≤ length (drop (s.count.start + place * width) ws)
   within place h =

@@ -11,7 +11,7 @@ use Rattle.words.proofs.Lawful.{Complete}
 use Rattle.layout.specs.declared.Kind.{Kind}
 use Rattle.layout.specs.Fields.{Fields}
 use Rattle.layout.specs.Layout.{layout, Acceptable, head_length}
-use Rattle.reader.specs.declared.Reading.{Reading}
+use Rattle.reader.specs.Said.{Said}
 use Rattle.reader.specs.Readings.{mask_in, count_in, head_refusal, sectors_in, body, accepted_reading, with_left, read_of}
 use Rattle.reader.specs.Stretches.{fields_in}
 use Rattle.reader.specs.Demands.{AcceptsExactly, PutTogether, ReadsBack, OneReading}
@@ -62,11 +62,11 @@ module _ (f : Fields) (w : Acceptable f) (more : List ℕ) where
 pub reads_back : ReadsBack
 reads_back f w =
     subst (λ (ws : List ℕ). ((read_of ws).refusal ≡ 0) × (fields_in ws (read_of ws) ≡ f)) (append-nil (layout f))
-    (ap (λ (r : Reading). r.refusal) (reading f w []), ap (fields_in (layout f ++ [])) (reading f w []) ∙ same_fields f w [])
+    (ap (λ (r : Said). r.refusal) (reading f w []), ap (fields_in (layout f ++ [])) (reading f w []) ∙ same_fields f w [])
 
 over_read : (f : Fields) → Acceptable f → (more : List ℕ) → T (some more) → (read_of (layout f ++ more)).refusal ≡ 16
 over_read f w [] t = absurd t
-over_read f w (x ∷ xs) t = ap (λ (r : Reading). r.refusal) (reading f w (x ∷ xs))
+over_read f w (x ∷ xs) t = ap (λ (r : Said). r.refusal) (reading f w (x ∷ xs))
 
 pub plain_reads : Reads Acceptable layout (λ ws. (read_of ws).refusal) (λ ws. fields_in ws (read_of ws))
 plain_reads =

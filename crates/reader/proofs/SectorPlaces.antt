@@ -4,6 +4,7 @@ use mathlib.Core.Path.{◌≡◌, refl, sym, ◌∙◌, ap}
 use mathlib.Core.List.{List}
 use native.Mathlib.Nat.{add-zero}
 use lib.ListN.{length}
+use Rattle.std.specs.Prelude.{Some, None}
 use Rattle.words.specs.declared.Took.{Took}
 use Rattle.words.specs.Bits.{bit}
 use Rattle.words.specs.Words.{number_of}
@@ -14,7 +15,6 @@ use Rattle.words.proofs.Extends.{Extends, nothing_extends, many_extends, optiona
 use Rattle.words.proofs.Tracks.{Tracks, out_at, in_out, past_out, nothing_tracks, many_tracks, optional_tracks, join_tracks, recast_tracks}
 use Rattle.layout.specs.Bits as bits
 use Rattle.layout.specs.Masks.{point_width}
-use Rattle.reader.specs.declared.Found.TheVariants.{Cut, Whole}
 use Rattle.reader.specs.declared.SectorReading.{SectorReading}
 use Rattle.reader.specs.Sectors.{to_reading, from_reading, to_fields, from_fields, raw_sector, sector, found_of}
 
@@ -34,39 +34,6 @@ sector_extends mask =
 
 pub sector_lawful : (mask : ℕ) → Lawful (sector mask)
 sector_lawful mask = (sector_extends mask).lawful
-
--- the steps of the reader, each from the place behind the one before
-pub record Walk (mask : ℕ) (ws : List ℕ) : Type 0 where
-  pub number : Took
-  pub step : Took
-  pub points : Took
-  pub tstart : Took
-  pub startdir : Took
-  pub count : ℕ
-  pub width : ℕ
-  pub len : ℕ
-  pub behind : ℕ
-  pub tend : Took
-  pub enddir : Took
-  pub is_number : number ≡ take_at (bit mask bits.number) ws 0
-  pub is_step : step ≡ take_at (bit mask bits.step) ws number.at
-  pub is_points : points ≡ take_at (bit mask bits.points) ws step.at
-  pub is_tstart : tstart ≡ take_at (bit mask bits.tstart) ws points.at
-  pub is_startdir : startdir ≡ take_at (bit mask bits.startdir) ws tstart.at
-  pub is_count : count ≡ number_of points.word
-  pub is_width : width ≡ point_width mask
-  pub is_len : len ≡ count * width
-  pub is_behind : behind ≡ skip_at len ws startdir.at
-  pub is_tend : tend ≡ take_at (bit mask bits.tend) ws behind
-  pub is_enddir : enddir ≡ take_at (bit mask bits.enddir) ws tend.at
-
--- where the points start
-pub start_within : {mask : ℕ} {ws : List ℕ} (w : Walk mask ws) → w.startdir.at ≤ length ws + 1
-start_within {ws = ws} w =
-    took_within _ ws _ _ w.is_startdir
-    (took_within _ ws _ _ w.is_tstart
-    (took_within _ ws _ _ w.is_points
-    (took_within _ ws _ _ w.is_step (took_within _ ws _ _ w.is_number zero-le))))
 
 module _ (mask base : ℕ) (ws : List ℕ) where
   -- the sector by places, and the place behind it
@@ -89,41 +56,69 @@ module _ (mask base : ℕ) (ws : List ℕ) where
   read_by_places : (sector mask).parse base ws ≡ out_at ws base by_places.0 by_places.1
   read_by_places = rw add-zero at (by_places.2.reads zero-le)
 
-  module _ (w : Walk mask ws) where
-    abbrev pub walked : SectorReading
-    walked =
-        record {
-          number = w.number.word;
-          step = w.step.word;
-          points = w.points.word;
-          tstart = w.tstart.word;
-          startdir = w.startdir.word;
-          start = base + w.startdir.at;
-          len = w.len;
-          tend = w.tend.word;
-          enddir = w.enddir.word;
-        }
+  -- the steps of the reader, each from the place behind the one before
+  module _ {number step points tstart startdir : Took} (is_number : number ≡ take_at (bit mask bits.number) ws 0)
+      (is_step : step ≡ take_at (bit mask bits.step) ws number.at) (is_points : points ≡ take_at (bit mask bits.points) ws step.at)
+      (is_tstart : tstart ≡ take_at (bit mask bits.tstart) ws points.at)
+      (is_startdir : startdir ≡ take_at (bit mask bits.startdir) ws tstart.at) where
+    -- where the points start
+    pub start_within : startdir.at ≤ length ws + 1
+    start_within =
+        took_within _ ws _ _ is_startdir
+        (took_within _ ws _ _ is_tstart
+        (took_within _ ws _ _ is_points (took_within _ ws _ _ is_step (took_within _ ws _ _ is_number zero-le))))
 
-    found : (sector mask).parse base ws ≡ out_at ws base walked w.enddir.at
-    unfolding by_places
-    found =
-        rw (
-          read_by_places,
-          ← w.is_number,
-          ← w.is_step,
-          ← w.is_points,
-          ← w.is_tstart,
-          ← w.is_startdir,
-          ← w.is_count,
-          ← w.is_width,
-          ← w.is_len,
-          ← w.is_behind,
-          ← w.is_tend,
-          ← w.is_enddir,
-        )
+    module _ {count width len behind : ℕ} (is_count : count ≡ number_of points.word) (is_width : width ≡ point_width mask)
+        (is_len : len ≡ count * width) (is_behind : behind ≡ skip_at len ws startdir.at) {tend enddir : Took}
+        (is_tend : tend ≡ take_at (bit mask bits.tend) ws behind) (is_enddir : enddir ≡ take_at (bit mask bits.enddir) ws tend.at) where
+      abbrev walked : SectorReading
+      walked =
+          record {
+            number = number.word;
+            step = step.word;
+            points = points.word;
+            tstart = tstart.word;
+            startdir = startdir.word;
+            start = base + startdir.at;
+            len = len;
+            tend = tend.word;
+            enddir = enddir.word;
+          }
 
-    pub sector_cut : length ws < w.enddir.at → Cut ≡ found_of ((sector mask).parse base ws)
-    sector_cut h = sym (ap found_of (found ∙ past_out ws base walked w.enddir.at h))
+      found : (sector mask).parse base ws ≡ out_at ws base walked enddir.at
+      unfolding by_places
+      found =
+          rw (
+            read_by_places,
+            ← is_number,
+            ← is_step,
+            ← is_points,
+            ← is_tstart,
+            ← is_startdir,
+            ← is_count,
+            ← is_width,
+            ← is_len,
+            ← is_behind,
+            ← is_tend,
+            ← is_enddir,
+          )
 
-    pub sector_whole : w.enddir.at ≤ length ws → Whole walked (base + w.enddir.at) ≡ found_of ((sector mask).parse base ws)
-    sector_whole h = sym (ap found_of (found ∙ in_out ws base walked w.enddir.at h))
+      pub sector_cut : length ws < enddir.at → None ≡ found_of ((sector mask).parse base ws)
+      sector_cut h = sym (ap found_of (found ∙ past_out ws base walked enddir.at h))
+
+      pub sector_whole : enddir.at ≤ length ws
+          → Some (
+            record {
+              number = number.word;
+              step = step.word;
+              points = points.word;
+              tstart = tstart.word;
+              startdir = startdir.word;
+              start = base + startdir.at;
+              len = len;
+              tend = tend.word;
+              enddir = enddir.word;
+            },
+            base + enddir.at,
+          ) ≡ found_of ((sector mask).parse base ws)
+      sector_whole h = sym (ap found_of (found ∙ in_out ws base walked enddir.at h))

@@ -6,8 +6,8 @@ use native.Mathlib.Omega.{arith}
 use native.Mathlib.Nat.{add-zero, add_assoc}
 use lib.ListN.{length, get_or, take, drop, length-append}
 use borrow.Author.Tests.{lt-ltb}
-use Rattle.words.specs.declared.Word.{Word}
-use Rattle.words.specs.Words.{words_of, laid_all}
+use Rattle.std.specs.Prelude.{Option, option_to_list}
+use Rattle.words.specs.Words.{laid_all}
 use Rattle.words.specs.Parse.{got}
 use Rattle.words.specs.Format.{Format, AllStand}
 use Rattle.words.proofs.Lawful.{StandsOf}
@@ -40,17 +40,17 @@ take_map f (suc n) [] = refl
 take_map f (suc n) (x ∷ xs) = ap (λ ys. f x ∷ ys) (take_map f n xs)
 
 -- the words in front, counted
-long : (a b c : Word) (behind : List ℕ) (s : SectorFields)
-    → length ((words_of a ++ words_of b ++ words_of c) ++ behind ++ opening s)
-    ≡ length (words_of a)
-    + length (words_of b)
-    + length (words_of c)
+long : (a b c : Option ℕ) (behind : List ℕ) (s : SectorFields)
+    → length ((option_to_list a ++ option_to_list b ++ option_to_list c) ++ behind ++ opening s)
+    ≡ length (option_to_list a)
+    + length (option_to_list b)
+    + length (option_to_list c)
     + length behind
-    + length (words_of s.number)
-    + length (words_of s.step)
-    + length (words_of s.points)
-    + length (words_of s.tstart)
-    + length (words_of s.startdir)
+    + length (option_to_list s.number)
+    + length (option_to_list s.step)
+    + length (option_to_list s.points)
+    + length (option_to_list s.tstart)
+    + length (option_to_list s.startdir)
 long a b c behind s = simp length-append (omega arith)
 
 -- of a body that is read from some place on: behind the words up to there, and those of the body
@@ -61,7 +61,7 @@ module _ (ws : List ℕ) (mask count first : ℕ) {value : Body SectorReading} {
 
   pub stands_behind : (get_or (padded sectors) place blank_sector).start
       ≡ first + length (
-      (words_of value.0 ++ words_of value.1.0 ++ words_of value.1.1.0)
+      (option_to_list value.0 ++ option_to_list value.1.0 ++ option_to_list value.1.1.0)
       ++ laid_all layout_sector (take place (map (sector_in ws) (take count (padded sectors))))
       ++ opening (sector_in ws (get_or (padded sectors) place blank_sector)))
   stands_behind =

@@ -11,7 +11,7 @@ use Rattle.layout.specs.Masks.{point_width}
 use Rattle.layout.specs.Fields.{Fields}
 use Rattle.layout.specs.Layout.{layout, Acceptable}
 use Rattle.reader.specs.declared.Part.{Part}
-use Rattle.reader.specs.declared.Place.TheVariants.{At}
+use Rattle.reader.specs.Said.{At}
 use Rattle.reader.specs.Parts.{Belongs}
 use Rattle.reader.specs.Endings.{place_numbers}
 use Rattle.reader.specs.Readings.{mask_in, refused_reading, read_of}

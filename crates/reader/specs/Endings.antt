@@ -8,8 +8,7 @@ use Rattle.layout.specs.Bits as bits
 use Rattle.layout.specs.Layout.{head_length}
 use Rattle.reader.specs.declared.Part.{Part}
 use Rattle.reader.specs.declared.Part.TheVariants.{Head, Sector, Senstat}
-use Rattle.reader.specs.declared.Place.{Place}
-use Rattle.reader.specs.declared.Place.TheVariants.{Nowhere, At}
+use Rattle.reader.specs.Said.{Place, Nowhere, At}
 use Rattle.reader.specs.Sectors.{sector}
 
 -- a place by numbers: the part, 0 for none, 1 the head, 2 a sector, 3 SENSTAT; the sector's place; the index. What a place does not have
@@ -19,7 +18,7 @@ pub record PlaceNumbers : Type 0 where
   pub sector : ℕ
   pub index : ℕ
 
-abbrev pub place_numbers : Place → PlaceNumbers
+abbrev pub place_numbers : Place Part → PlaceNumbers
 place_numbers Nowhere = record { part = 0; sector = 0; index = 0 }
 place_numbers (At index Head) = record { part = 1; sector = 0; index = index }
 place_numbers (At index (Sector k)) = record { part = 2; sector = k; index = index }

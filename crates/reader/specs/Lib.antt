@@ -1,4 +1,5 @@
 -- To be read in this order.
+pub mod Said
 pub mod Sectors
 pub mod Endings
 pub mod Readings
@@ -10,5 +11,6 @@ pub mod Mixed
 pub mod Places
 pub mod MixedStretches
 pub mod MixedParts
+pub mod Lent
 pub mod MixedDemands
 pub mod Figures

@@ -12,7 +12,7 @@ use Rattle.layout.specs.MixedMasks.{reflector_width, most_reflectors}
 use Rattle.layout.specs.Layout.{contour}
 use Rattle.layout.specs.Mixed.{MixedFields, layout_mixed, MixedAcceptable}
 use Rattle.reader.specs.declared.MixedPart.{MixedPart}
-use Rattle.reader.specs.declared.MixedPlace.TheVariants.{At}
+use Rattle.reader.specs.Said.{At}
 use Rattle.reader.specs.Readings.{read_of}
 use Rattle.reader.specs.Mixed.{mixed_mask_in, refused_mixed, read_mixed_of, mixed_place_numbers}
 use Rattle.reader.specs.MixedParts.{head_of, MixedBelongs}

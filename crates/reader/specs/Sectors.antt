@@ -1,7 +1,5 @@
 -- Rules 5.5 and 5.10: a sector as the host's reader finds it, and the format by which it is read.
-use Rattle.std.specs.Prelude.{List, ℕ, ◌*◌}
-use Rattle.words.specs.declared.Word.{Word}
-use Rattle.words.specs.declared.Word.TheVariants.{Absent}
+use Rattle.std.specs.Prelude.{List, ℕ, ◌*◌, Option, None, Some}
 use Rattle.words.specs.Bits.{bit}
 use Rattle.words.specs.Words.{number_of}
 use Rattle.words.specs.Parse.{Span, Got, short, got}
@@ -10,12 +8,10 @@ use Rattle.layout.specs.Bits as bits
 use Rattle.layout.specs.Masks.{point_width}
 use Rattle.layout.specs.Fields.{SectorFields}
 use Rattle.reader.specs.declared.SectorReading.{SectorReading}
-use Rattle.reader.specs.declared.Found.{Found}
-use Rattle.reader.specs.declared.Found.TheVariants.{Cut, Whole}
 
 -- a sector's words one by one, with its points as S has them: a place and a length, or the words themselves (rule 5.5)
 abbrev pub Raw : Type 0 → Type 0
-Raw S = Word × (Word × (Word × (Word × (Word × (S × (Word × (Word × Unit {0})))))))
+Raw S = Option ℕ × (Option ℕ × (Option ℕ × (Option ℕ × (Option ℕ × (S × (Option ℕ × (Option ℕ × Unit {0})))))))
 
 abbrev pub to_reading : Raw Span → SectorReading
 to_reading a =
@@ -72,18 +68,18 @@ sector mask = recast to_reading from_reading to_fields from_fields (raw_sector m
 abbrev pub blank_sector : SectorReading
 blank_sector =
     record {
-      number = Absent;
-      step = Absent;
-      points = Absent;
-      tstart = Absent;
-      startdir = Absent;
+      number = None;
+      step = None;
+      points = None;
+      tstart = None;
+      startdir = None;
       start = 0;
       len = 0;
-      tend = Absent;
-      enddir = Absent;
+      tend = None;
+      enddir = None;
     }
 
 -- what the sector reader answers: the words ended early, or the sector and the place behind it (rule 5.11)
-abbrev pub found_of : Got SectorReading → Found
-found_of short = Cut
-found_of (got s place ws) = Whole s place
+abbrev pub found_of : Got SectorReading → Option (SectorReading × ℕ)
+found_of short = None
+found_of (got s place ws) = Some (s, place)

@@ -1,12 +1,14 @@
 -- Rules 5.13 and 5.15: the points of a sector, a part of the words given that is asked by the sector's place; and
 -- the words put together again.
-use Rattle.std.specs.Prelude.{◌≡◌, List, [], ◌++◌, map, ℕ, ◌+◌, ◌*◌, ltb, eqb, length, get_or, take, drop, if◌then◌else◌}
+use Rattle.std.specs.Prelude.{◌≡◌, List, [], ◌++◌, map, ℕ, ◌+◌, ◌*◌, ltb, eqb, length, get_or, take, drop, if◌then◌else◌, Result}
 use Rattle.std.specs.Borrow.{Bor}
 use Rattle.words.specs.Words.{number_of, laid_all}
 use Rattle.layout.specs.Fields.{SectorFields, Fields}
 use Rattle.layout.specs.Layout.{head, opening, layout_sector, front, layout}
 use Rattle.reader.specs.declared.SectorReading.{SectorReading}
-use Rattle.reader.specs.declared.Reading.{Reading}
+use Rattle.reader.specs.declared.Part.{Part}
+use Rattle.reader.specs.declared.ReadRefusal.{ReadRefusal}
+use Rattle.reader.specs.Said.{Said, SaysWhy}
 use Rattle.reader.specs.Sectors.{blank_sector}
 use Rattle.reader.specs.Readings.{read_of}
 
@@ -15,9 +17,9 @@ unfoldable pub stretch_refusal_of : List ℕ → ℕ → ℕ
 stretch_refusal_of ws place =
     if eqb (read_of ws).refusal 0 then (if ltb place (read_of ws).count then 0 else 17) else (read_of ws).refusal
 
--- what is promised of `stretch_refusal` (rule 5.13)
-abbrev pub StretchRefusalSays : List ℕ → ℕ → ℕ → Type 0
-StretchRefusalSays ws place r = r ≡ stretch_refusal_of ws place
+-- what is promised of `stretch_refusal`: that number, and the reader's place (rule 5.13)
+abbrev pub StretchRefusalSays : List ℕ → ℕ → Result (Unit {0}) (ReadRefusal Part) → Type 0
+StretchRefusalSays ws place r = SaysWhy (stretch_refusal_of ws place) (read_of ws).place r
 
 -- where a sector's points stand in the words (rule 5.13)
 abbrev pub stretch_in : List ℕ → SectorReading → List ℕ
@@ -50,7 +52,7 @@ sector_in ws s =
       enddir = s.enddir;
     }
 
-abbrev pub fields_in : List ℕ → Reading → Fields
+abbrev pub fields_in : List ℕ → Said → Fields
 fields_in ws r =
     record {
       mask = number_of r.mask;
@@ -63,7 +65,7 @@ fields_in ws r =
     }
 
 -- the words in front of a sector's points: those before the sectors, the sectors before it, and its own opening (rule 5.11)
-abbrev pub words_before : List ℕ → Reading → ℕ → List ℕ
+abbrev pub words_before : List ℕ → Said → ℕ → List ℕ
 words_before ws r place =
     let f = fields_in ws r in
     head f.mask (length f.sectors)

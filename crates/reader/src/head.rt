@@ -2,9 +2,9 @@
 ghost use Rattle.std.specs.Prelude.{◌≡◌, ◌≤◌, length};
 ghost use Rattle.layout.specs.Mixed.{kind_numbers};
 ghost use Rattle.reader.specs.Readings.{layers_ok, sectors_ok};
-ghost use Rattle.reader.specs.Mixed.{head_refusal_for};
-ghost use Rattle.reader.specs.Places.{mask_for, info_for};
+ghost use Rattle.reader.specs.Places.{mask_for, info_for, HeadSays};
 
+use crate::ReadRefusal;
 use layout::{HEAD, Kind, MIXED_CODE, MIXED_HEAD, PROFILE_CODE};
 
 // The last of these words: its high byte, the number of layers, is 1 (rule 5.4).
@@ -15,16 +15,15 @@ fn layers_ok(info: u16) -> bool
 }
 
 // Its low byte, the number of sectors, is 1 to 8 (rule 5.4).
+#[tactic(auto, using(words::proofs::Tests::picks))]
 fn sectors_ok(info: u16) -> bool
     ensures { result ≡ sectors_ok info }
 {
-    if info % 256 < 1 {
-        return false;
-    }
-    info % 256 <= 8
+    let sectors = info % 256;
+    1 <= sectors && sectors <= 8
 }
 
-// The first word (rules 5.4 and 5.19).
+// The first word (rules 5.4 and 5.19). A match, as the next one: these are numbers of a kind (`kind_numbers`), and no conversion of it.
 fn code_of(kind: Kind) -> u16
     ensures { result ≡ (kind_numbers kind).code }
 {
@@ -45,6 +44,7 @@ fn head_of(kind: Kind) -> usize
 }
 
 // The mask's number (rules 5.4 and 5.19).
+#[tactic(auto, using(crate::proofs::Heads::kind_has, crate::proofs::Heads::mask_there))]
 pub(crate) fn mask_in(words: &[u16], kind: Kind) -> u32
     requires { (kind_numbers kind).first ≤ length words.now }
     ensures { result ≡ mask_for kind words.now }
@@ -56,6 +56,7 @@ pub(crate) fn mask_in(words: &[u16], kind: Kind) -> u32
 }
 
 // The last of the words that depend on no bit (rules 5.4 and 5.19).
+#[tactic(auto, using(crate::proofs::Heads::kind_has, crate::proofs::Heads::info_there))]
 pub(crate) fn info_in(words: &[u16], kind: Kind) -> u16
     requires { (kind_numbers kind).first ≤ length words.now }
     ensures { result ≡ info_for kind words.now }
@@ -66,33 +67,31 @@ pub(crate) fn info_in(words: &[u16], kind: Kind) -> u16
     }
 }
 
-// Refusals 12, 13, 22, 23, 24 and 14, tried in this order; 0 for none (rule 6.1).
-pub(crate) fn head_refusal(words: &[u16], kind: Kind) -> u16
-    ensures { result ≡ head_refusal_for kind words.now }
+// Refusals 12, 13, 22, 23, 24 and 14, tried in this order (rule 6.1).
+#[tactic(auto, using(crate::proofs::Heads::ways))]
+pub(crate) fn check_head<P>(words: &[u16], kind: Kind) -> Result<(), ReadRefusal<P>>
+    ensures { HeadSays kind words.now result }
 {
-    if words.len() == 0 {
-        return 12;
-    }
-    if words[0] != code_of(kind) {
-        return 12;
+    if words.first() != Some(&code_of(kind)) {
+        return Err(ReadRefusal::NoProfile);
     }
     let head = head_of(kind);
     if words.len() < head {
-        return 13;
+        return Err(ReadRefusal::ShortHead);
     }
     let mask = mask_in(words, kind);
     let info = info_in(words, kind);
     if !layout::kind_ok(kind, mask) {
-        return 22;
+        return Err(ReadRefusal::Mask);
     }
     if !layers_ok(info) {
-        return 23;
+        return Err(ReadRefusal::Layers);
     }
     if !sectors_ok(info) {
-        return 24;
+        return Err(ReadRefusal::SectorCount);
     }
     if layout::is_uncounted(mask) {
-        return 14;
+        return Err(ReadRefusal::Uncounted);
     }
-    0
+    Ok(())
 }

@@ -2,32 +2,24 @@
 ghost use Rattle.reader.specs.MixedStretches.{MixedStretchRefusalSays, MixedStretchSays};
 
 use crate::mixed::read_mixed;
+use crate::places::{check_place, points_at};
+use crate::{MixedPart, ReadRefusal};
 
-// The number for no of the call below, on the same words and place; 0 for none (rule 5.23).
-pub fn stretch_mixed_refusal(words: &[u16], place: usize) -> u16
+// Why the call below hands nothing back, on the same words and place (rule 5.23).
+pub fn stretch_mixed_refusal(words: &[u16], place: usize) -> Result<(), ReadRefusal<MixedPart>>
     ensures { MixedStretchRefusalSays words.now place result }
 {
-    let reading = read_mixed(words);
-    if reading.refusal != 0 {
-        return reading.refusal;
-    }
-    if place < reading.count {
-        return 0;
-    }
-    17
+    let reading = read_mixed(words)?;
+    check_place(place, reading.contour.count)
 }
 
-// The points of the sector at a place, a part of the words given; empty where there is a number for no (rule 5.23).
+// The points of the sector at a place, a part of the words given; empty where the call above is refused (rule 5.23). It and the call for a plain
+// profile are two, by rules 5.13 and 5.23; what they share is `points_at`.
 pub fn stretch_mixed(words: &[u16], place: usize) -> &[u16]
     ensures { MixedStretchSays words.entry place result }
 {
-    let reading = read_mixed(words);
-    if place < reading.count {
-        let sector = reading.sectors[place];
-        let start = sector.start;
-        let end = start + sector.len;
-        &words[start..end]
-    } else {
-        &words[0..0]
+    match read_mixed(words) {
+        Ok(reading) => points_at(words, reading.contour, place),
+        Err(_) => &words[0..0],
     }
 }

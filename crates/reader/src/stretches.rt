@@ -2,32 +2,24 @@
 ghost use Rattle.reader.specs.Stretches.{StretchRefusalSays, StretchSays};
 
 use crate::body::read;
+use crate::places::{check_place, points_at};
+use crate::{Part, ReadRefusal};
 
-// The number for no of the call below, on the same words and place; 0 for none (rule 5.13).
-pub fn stretch_refusal(words: &[u16], place: usize) -> u16
+// Why the call below hands nothing back, on the same words and place (rule 5.13).
+pub fn stretch_refusal(words: &[u16], place: usize) -> Result<(), ReadRefusal<Part>>
     ensures { StretchRefusalSays words.now place result }
 {
-    let reading = read(words);
-    if reading.refusal != 0 {
-        return reading.refusal;
-    }
-    if place < reading.count {
-        return 0;
-    }
-    17
+    let reading = read(words)?;
+    check_place(place, reading.contour.count)
 }
 
-// The points of the sector at a place, a part of the words given; empty where there is a number for no (rule 5.13).
+// The points of the sector at a place, a part of the words given; empty where the call above is refused (rule 5.13).
+// Stays a part alone, and no Result: rule 5.13 has one call hand back the points, and another say why there are none.
 pub fn stretch(words: &[u16], place: usize) -> &[u16]
     ensures { StretchSays words.entry place result }
 {
-    let reading = read(words);
-    if place < reading.count {
-        let sector = reading.sectors[place];
-        let start = sector.start;
-        let end = start + sector.len;
-        &words[start..end]
-    } else {
-        &words[0..0]
+    match read(words) {
+        Ok(reading) => points_at(words, reading.contour, place),
+        Err(_) => &words[0..0],
     }
 }

@@ -1,15 +1,19 @@
--- From a code to its service, from the words to the outcome, and from the outcome to what is handed back.
+-- From the words to the outcome, and from the outcome to what is handed back.
 use mathlib.Core.Path.{◌≡◌, ap}
 use mathlib.Core.Logic.{inl, inr}
-use mathlib.Core.List.{List}
+use mathlib.Core.List.{List, ◌++◌}
 use Prim.Native.Nat.{ℕ, ◌%◌, ◌≤◌, ◌<◌}
-use lib.ListN.{length, get_or, take}
+use lib.ListN.{length, get_or, take, drop}
 use borrow.Author.Tests.{eq-eqb, ne_eqb}
+use Rattle.std.specs.Prelude.{Result, Err}
 use Rattle.words.specs.Buffers.{over}
 use Rattle.state.specs.declared.State.{State}
 use Rattle.state.specs.declared.Reply.{Reply}
-use Rattle.state.specs.Replies.{delivered, Answered}
-use Rattle.state.proofs.Delivery.{reply, is_refused_lem, no_room, has_room}
+use Rattle.state.specs.declared.Refusal.{Refusal}
+use Rattle.state.specs.declared.Refusal.TheVariants.{NoRoom}
+use Rattle.state.specs.Replies.{refusal_number, delivered, Answered}
+use Rattle.state.proofs.Delivery.{served, is_refused_lem, no_room, has_room}
+use Rattle.state.proofs.HandedLaws.{refuses}
 use Rattle.services.specs.declared.Served.{Served}
 use Rattle.services.specs.Answers.{answer, longest, Gives, unpacked}
 use Rattle.services.proofs.Packing.{unpacked_long, unpacks}
@@ -18,15 +22,6 @@ use Rattle.sensor.specs.declared.Miscount.{Miscount}
 use Rattle.sensor.specs.Table.{row_of, response, service_of, outcome_of, said_of}
 use Rattle.sensor.specs.Requests.{request_refusal, outcome, request_of}
 use Rattle.sensor.proofs.Codes.{Has, service_has, response_is}
-
--- `row_of`: an arm is the code's service
-pub code_is : (code k : ℕ) (v : Service) → code ≡ k → v ≡ service_of k → v ≡ service_of code
-code_is code k v e q = rw e q
-
--- `serve`: an arm is what the service does
-pub service_is : (r : Served) (v w : Service) (s : State) (code a b c d : ℕ) → v ≡ w → Gives r ((row_of w).does s code a b c d)
-    → Gives r ((row_of v).does s code a b c d)
-service_is r v w s code a b c d e g = rw e g
 
 -- `serve_words`: the code is answered by the service's response code
 answered_so : (code : ℕ) (v : Service) → Has code v → (s : State) (a b c d : ℕ)
@@ -55,20 +50,22 @@ module _ (r : Served) (s : State) (ws : List ℕ) (v : Service) (want code n : �
 
 -- `deliver`
 module _ (v : Served) (s : State) (d : List ℕ) (long : length v.words ≡ longest) (short : v.count ≤ longest) where
-  pub too_long : length d < v.count → Answered (reply s 6 0) d d (delivered s (unpacked v) (length d))
+  pub too_long : length d < v.count → Answered s (Err NoRoom) d d (delivered s (unpacked v) (length d))
   too_long h = no_room s (unpacked v) d v.count (unpacked_long v long short) h
 
-  pub written : v.count ≤ length d → (after : List ℕ) → after ≡ over (take v.count v.words) d
-      → Answered (reply v.state 0 v.count) d after (delivered s (unpacked v) (length d))
-  written h after e = has_room s (unpacked v) d v.count (unpacked_long v long short) h after e
+  pub written : v.count ≤ length d → (front : List ℕ) → front ≡ take v.count v.words
+      → Answered s (served v.state v.count) d (front ++ drop v.count d) (delivered s (unpacked v) (length d))
+  unfolding over
+  written h front e =
+      has_room s (unpacked v) d v.count (unpacked_long v long short) h _ (rw (e, unpacked_long v long short))
 
 -- `request`
-module _ (s : State) (ws d : List ℕ) (n : ℕ) (en : n ≡ request_refusal s ws) where
-  pub turned_down : (n ≡ 0 → ⊥) → Answered (reply s n 0) d d (request_of s ws (length d))
+module _ (s : State) (ws d : List ℕ) where
+  pub turned_down : (e : Refusal) → refusal_number e ≡ request_refusal s ws → Answered s (Err e) d d (request_of s ws (length d))
   unfolding request_of
-  turned_down h = rw (← en, ne_eqb _ _ h) (is_refused_lem s n d)
+  turned_down e q = rw (← q, refuses e) (is_refused_lem s e d)
 
-  pub answered : n ≡ 0 → (v : Served) → Gives v (outcome s ws) → (r : Reply) (after : List ℕ)
-      → Answered r d after (delivered s (unpacked v) (length d)) → Answered r d after (request_of s ws (length d))
+  pub answered : 0 ≡ request_refusal s ws → (v : Served) → Gives v (outcome s ws) → (r : Result Reply Refusal) (after : List ℕ)
+      → Answered s r d after (delivered s (unpacked v) (length d)) → Answered s r d after (request_of s ws (length d))
   unfolding request_of
-  answered h v g r after x = rw (← en, eq-eqb _ _ h, ← unpacks v _ g) x
+  answered q v g r after x = rw (← q, ← unpacks v _ g) x

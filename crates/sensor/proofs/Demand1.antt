@@ -8,7 +8,7 @@ use lib.Dec.{T, ltb, eqb}
 use lib.ListN.{length, get_or, take}
 use lib.Seq.{length-take-le, take-append_seam}
 use borrow.Author.Tests.{ne_eqb, eqb-true, ltb-true, le-ltb}
-use Rattle.std.specs.Prelude.{if◌then◌else◌}
+use Rattle.std.specs.Prelude.{if◌then◌else◌, Result}
 use Rattle.words.specs.Lists.{some, every, are_words}
 use Rattle.words.specs.Numbers.{no, first_of}
 use Rattle.words.specs.Buffers.{over}
@@ -17,8 +17,10 @@ use Rattle.words.proofs.Tests.{and_l, and_r, is_true}
 use Rattle.state.specs.declared.State.{State}
 use Rattle.state.specs.Ranges.{in_range}
 use Rattle.state.specs.declared.Reply.{Reply}
-use Rattle.state.specs.Replies.{Result, refused, delivered, Answered, Unchanged}
+use Rattle.state.specs.declared.Refusal.{Refusal}
+use Rattle.state.specs.Replies.{handed, Effect, refused, delivered, Answered, Unchanged}
 use Rattle.state.proofs.Delivery.{refused_unchanged, done, delivered_by, delivered_number, delivered_room}
+use Rattle.state.proofs.HandedLaws.{IsHanded, delivered_handed}
 use Rattle.state.proofs.Parts.{parts, whole}
 use Rattle.sensor.specs.declared.Service.{Service}
 use Rattle.sensor.specs.Table.{row_of, services, named, service_of, allowed, is_listed, count_refused}
@@ -27,7 +29,7 @@ use Rattle.sensor.specs.Demands.{RefusalsChangeNothing, RefusalsExactly, RoomFor
 use Rattle.sensor.proofs.Lawful.{outcome_fine}
 
 -- what holds of every refusal, and of the outcome of a request that none of 1 to 5 refuses, holds of the request
-pub requested_by : (P : Result → Type 0) (s : State) (ws : List ℕ) (room : ℕ) → ((n : ℕ) → P (refused s n))
+pub requested_by : (P : Effect → Type 0) (s : State) (ws : List ℕ) (room : ℕ) → ((n : ℕ) → P (refused s n))
     → (request_refusal s ws ≡ 0 → P (done (outcome s ws))) → P (request_of s ws room)
 unfolding request_of
 requested_by P s ws room h k = go (eqb (request_refusal s ws) 0) refl
@@ -50,19 +52,38 @@ requested_count : (s : State) (ws : List ℕ) (room : ℕ) → (request_of s ws 
 requested_count s ws room = requested_by (λ x. x.reply.count ≡ length x.written) s ws room (λ _. refl) (λ _. refl)
 
 -- what a caller finds in its buffer: the answer's words, as many as are counted, and no more than it has
-module _ (r : Reply) (d d' : List ℕ) (s : State) (ws : List ℕ) (a : Answered r d d' (request_of s ws (length d))) where
+module _ (r : Result Reply Refusal) (d d' : List ℕ) (s : State) (ws : List ℕ) (a : Answered s r d d' (request_of s ws (length d))) where
   fits : length (request_of s ws (length d)).written ≤ length d
   fits = rw (← requested_count s ws (length d)) (requested_room s ws (length d))
 
-  pub answer_within : r.count ≤ length d'
+  pub answer_within : (handed s r).count ≤ length d'
   answer_within = rw (a.reply, a.buffer, over_length _ d fits) (requested_room s ws (length d))
 
-  pub answer_counted : r.count ≡ length (take r.count d')
-  answer_counted = sym (length-take-le r.count d' answer_within)
+  pub answer_counted : (handed s r).count ≡ length (take (handed s r).count d')
+  answer_counted = sym (length-take-le (handed s r).count d' answer_within)
 
-  pub answer_words : take r.count d' ≡ (request_of s ws (length d)).written
+  pub answer_words : take (handed s r).count d' ≡ (request_of s ws (length d)).written
   unfolding over
   answer_words = rw (a.reply, a.buffer, requested_count s ws (length d)) (take-append_seam _ _)
+
+-- what holds of each of the numbers holds of the one that tests one after another find
+of_each : (P : ℕ → Type 0) (a b c d e : Bool) → P 0 → P 1 → P 2 → P 3 → P 4 → P 5
+    → P (if a then 1 else if b then 2 else if c then 3 else if d then 4 else if e then 5 else 0)
+of_each P true b c d e p0 p1 p2 p3 p4 p5 = p1
+of_each P false true c d e p0 p1 p2 p3 p4 p5 = p2
+of_each P false false true d e p0 p1 p2 p3 p4 p5 = p3
+of_each P false false false true e p0 p1 p2 p3 p4 p5 = p4
+of_each P false false false false true p0 p1 p2 p3 p4 p5 = p5
+of_each P false false false false false p0 p1 p2 p3 p4 p5 = p0
+
+-- there is an answer that hands back what the definition has
+pub requested_handed : (s : State) (ws : List ℕ) (room : ℕ) → IsHanded s (request_of s ws room).reply
+unfolding request_of request_refusal service_refusal
+requested_handed s ws room =
+    let v = service_of (get_or ws 0 0) in
+    of_each (λ n. IsHanded s (if eqb n 0 then delivered s (outcome s ws) room else refused s n).reply)
+    (not (in_range s)) (eqb (length ws) 0) (not (is_listed v)) (count_refused v (length ws)) (not (allowed v s.mode))
+    (delivered_handed s (outcome s ws) room) refl refl refl refl refl
 
 pub refusals_change_nothing : RefusalsChangeNothing
 refusals_change_nothing s ws d =

@@ -1,7 +1,6 @@
 -- The functions
 pub mod Codes
 pub mod WrongCounts
-pub mod Refusals
 pub mod Answering
 -- The theorems
 pub mod Lawful

@@ -14,7 +14,7 @@ use Rattle.words.specs.Numbers.{no, first_of}
 use Rattle.words.proofs.Tests.{and_l, and_r, is_true}
 use Rattle.state.specs.declared.State.{State}
 use Rattle.state.specs.Ranges.{in_range}
-use Rattle.state.specs.Replies.{Result, refused, delivered}
+use Rattle.state.specs.Replies.{Effect, refused, delivered}
 use Rattle.services.specs.Answers.{answer}
 use Rattle.sensor.specs.declared.Service.{Service}
 use Rattle.sensor.specs.Table.{row_of, response, services, service_of, allowed, is_listed, is_refused, said_of}
@@ -34,7 +34,7 @@ number_of s v =
     if is_refused (row_of v).miscount then 4 else
     if not (allowed v s.mode) then 5 else 0
 
-abbrev result_of : State → Service → ℕ → Result
+abbrev result_of : State → Service → ℕ → Effect
 result_of s v room =
     if eqb (number_of s v) 0 then delivered s (answer s (said_of (row_of v).miscount (response (row_of v).code))) room
     else refused s (number_of s v)

@@ -1,10 +1,11 @@
 -- Rules, section 6: a request, its refusals 1 to 6 in order, and what it hands back.
-use Rattle.std.specs.Prelude.{not, List, ℕ, eqb, length, get_or, if◌then◌else◌}
+use Rattle.std.specs.Prelude.{not, List, ℕ, eqb, length, get_or, if◌then◌else◌, Result}
 use Rattle.state.specs.declared.State.{State}
 use Rattle.state.specs.declared.Mode.{Mode}
 use Rattle.state.specs.Ranges.{in_range}
 use Rattle.state.specs.declared.Reply.{Reply}
-use Rattle.state.specs.Replies.{Outcome, Result, refused, delivered, Answered}
+use Rattle.state.specs.declared.Refusal.{Refusal}
+use Rattle.state.specs.Replies.{Outcome, Effect, refused, delivered, Answered}
 use Rattle.services.specs.Answers.{answer}
 use Rattle.sensor.specs.declared.Service.{Service}
 use Rattle.sensor.specs.Table.{row_of, response, service_of, allowed, outcome_of, is_listed, miscounted, count_refused, said_of}
@@ -33,10 +34,10 @@ outcome s ws =
     else outcome_of v s (get_or ws 1 0) (get_or ws 2 0) (get_or ws 3 0) (get_or ws 4 0)
 
 -- a request into a buffer of so many words: one of refusals 1 to 5, or 6, or the outcome (rule 4.17)
-unfoldable pub request_of : State → List ℕ → ℕ → Result
+unfoldable pub request_of : State → List ℕ → ℕ → Effect
 request_of s ws room =
     if eqb (request_refusal s ws) 0 then delivered s (outcome s ws) room else refused s (request_refusal s ws)
 
--- the contract of `request`: the reply, and the buffer from its contents before to those after (rule 4.17)
-abbrev pub RequestSays : State → List ℕ → List ℕ → List ℕ → Reply → Type 0
-RequestSays s ws before after r = Answered r before after (request_of s ws (length before))
+-- the contract of `request`: the answer, and the buffer from its contents before to those after (rule 4.17)
+abbrev pub RequestSays : State → List ℕ → List ℕ → List ℕ → Result Reply Refusal → Type 0
+RequestSays s ws before after r = Answered s r before after (request_of s ws (length before))

@@ -11,10 +11,7 @@ use state::State;
 pub(crate) fn is_refused(miscount: Miscount) -> bool
     ensures { result ≡ is_refused miscount }
 {
-    match miscount {
-        Miscount::Refused => true,
-        Miscount::NoValues(_) => false,
-    }
+    matches!(miscount, Miscount::Refused)
 }
 
 // The response code, then no value so many times; the state stays.
@@ -24,11 +21,7 @@ fn no_values(state: State, code: u16, times: usize) -> Served
 {
     let mut words = [0u16; LONGEST];
     words[0] = code;
-    let mut i: usize = 0;
-    while i < times {
-        words[i + 1] = NO_VALUE;
-        i += 1;
-    }
+    words[1..=times].fill(NO_VALUE);
     Served {
         state,
         words,

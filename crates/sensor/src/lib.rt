@@ -7,7 +7,8 @@ mod table;
 
 pub use requests::request;
 
-// The services of the table, and what stands for a code that is not in it (rule 4.3).
+// The services of the table, and what stands for a code that is not in it (rule 4.3). Stays a variant, and no Option around the others: what is
+// promised of the table is said of each Service, this one too.
 #[derive(Clone, Copy)]
 pub enum Service {
     GetStatus,
@@ -33,7 +34,8 @@ pub enum Service {
     Unknown,
 }
 
-// What becomes of a wrong number of words: it is refused, or answered, by the response code and then no value so many times (rule 4.25).
+// What becomes of a wrong number of words: it is refused, or answered, by the response code and then no value so many times (rule 4.25). Stays
+// an enum of its own: NoValues(3) in a line of the table says what Some(3) would not.
 #[derive(Clone, Copy)]
 pub enum Miscount {
     Refused,

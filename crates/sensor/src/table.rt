@@ -1,23 +1,32 @@
 // The table: codes, words in, modes, and the function of each service (rule 4.3).
 ghost use Rattle.std.specs.Prelude.{◌≡◌, not, ◌%◌, if◌then◌else◌};
+ghost use Rattle.state.specs.Replies.{said};
 ghost use Rattle.services.specs.Answers.{Gives};
 ghost use Rattle.sensor.specs.Table.{row_of, response, listed, Lists};
 
 use crate::Miscount::{NoValues, Refused};
 use crate::{Miscount, Service};
 use services::Served;
-use state::{Mode, State};
+use state::{Mode, Refusal, State};
 use units::{Angle, Millimetres, Percent};
 
 // What a response code has more than its request's; `response` in the specs (rule 4.1).
-const RESPONSE: u32 = 0x8000;
+const RESPONSE: u16 = 0x8000;
 
 // A row: the service, how many words come in, the code's included, whether IDLE, ROTATE and MEASURE are listed, and what becomes of another
-// number of words.
+// number of words. Stays a tuple struct: with a name before each field a line of the table is eight.
 #[derive(Clone, Copy)]
-pub(crate) struct Row(pub Service, pub usize, bool, bool, bool, pub Miscount);
+pub(crate) struct Row(
+    pub Service,
+    pub usize,
+    pub bool,
+    pub bool,
+    pub bool,
+    pub Miscount,
+);
 
 // The row of a code.
+#[tactic(auto, unfolding(crate::specs::Table::service_of))]
 pub(crate) fn row_of(code: u16) -> Row
     ensures { Lists result.0 result.1 result.2 result.3 result.4 result.5 code }
 {
@@ -50,31 +59,33 @@ pub(crate) fn row_of(code: u16) -> Row
 fn is_allowed(row: Row, mode: Mode) -> bool
     ensures { result ≡ listed row.2 row.3 row.4 mode }
 {
+    let Row(_, _, idle, rotate, measure, _) = row;
     match mode {
-        Mode::Idle => row.2,
-        Mode::Rotate => row.3,
-        Mode::Measure => row.4,
+        Mode::Idle => idle,
+        Mode::Rotate => rotate,
+        Mode::Measure => measure,
     }
 }
 
-// Refusal 5 where the mode is not listed, and 0 where it is (rule 6.1).
-pub(crate) fn mode_refusal(row: Row, mode: Mode) -> u16
-    ensures { result ≡ (if not (listed row.2 row.3 row.4 mode) then 5 else 0) }
+// Refusal 5 where the mode is not listed (rule 6.1).
+pub(crate) fn admit_mode(row: Row, mode: Mode) -> Result<(), Refusal>
+    ensures { said result ≡ (if not (listed row.2 row.3 row.4 mode) then 5 else 0) }
 {
     if !is_allowed(row, mode) {
-        return 5;
+        return Err(Refusal::NotInMode);
     }
-    0
+    Ok(())
 }
 
 // The response code of a request's (rule 4.1).
 pub(crate) fn response_code(code: u16) -> u16
     ensures { result ≡ response code % 65536 }
 {
-    ((code as u32 + RESPONSE) % 65536) as u16
+    code.wrapping_add(RESPONSE)
 }
 
-// What the service does, given the response code and the words after the request's.
+// What the service does, given the response code and the words after the request's. Stays a match, and no table of functions: each service takes
+// its own words, with their units.
 pub(crate) fn serve(
     service: Service,
     state: State,

@@ -1,7 +1,5 @@
-pub mod Exits
-pub mod SettingsExits
-pub mod MixedExits
 pub mod Packing
+pub mod Cold
 pub mod Lawful
 pub mod SettingsLawful
 pub mod MixedLawful

@@ -1,5 +1,6 @@
 // The services as pure functions: from a state, the response code and the words after the request's code to the next state and a short
-// answer. Nothing is stored before every test has passed, and nothing is written here: whether the answer fits a buffer is decided above.
+// answer. Nothing is stored before every test has passed, and nothing is written here: whether the answer fits a buffer is decided above. State,
+// code and words stay parameters: a struct of them would be made in one place and taken apart in each service.
 #![tactic(auto)]
 
 use state::State;
@@ -29,7 +30,8 @@ pub const LONGEST: usize = 5;
 // What is answered in the place of a value that there is none of; `no_value` in the specs.
 pub const NO_VALUE: u16 = 0xFFFF;
 
-// The next state, and the answer: its first count words.
+// The next state, and the answer: its first count words. Stays an array and a count:
+// `packed` of the specs says what each entry of the array holds, those behind the count too.
 #[derive(Clone, Copy)]
 pub struct Served {
     pub state: State,

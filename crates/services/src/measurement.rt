@@ -5,7 +5,7 @@ ghost use Rattle.state.specs.Jobs.{has_kind};
 ghost use Rattle.services.specs.Measurement.{new_job, get_profile, cancelled as Measurement·cancelled, cancel_profile};
 
 use crate::Served;
-use crate::answers::{answer_status, no_word, one_word};
+use crate::answers::{answer_status, no_word, say};
 use layout::{Kind, MASK_LIMIT, Mask};
 use state::{Job, State};
 
@@ -28,25 +28,19 @@ pub fn get_profile(state: State, code: u16, number: u16, mask: u16) -> Served
 {
     let cleared = mask % MASK_LIMIT;
     if cleared == 0 {
-        return one_word(state, code);
+        return say(state, &[code]);
     }
-    let mode = state.mode;
     let job = new_job(number, Mask::Plain(cleared));
-    no_word(state::with_drive(state, mode, state.running, job))
+    no_word(state::with_drive(state, state.mode, state.running, job))
 }
 
-// There is a job with a mask of the kind (rules 4.11 and 4.24).
+// There is a job with a mask of the kind (rules 4.11 and 4.24). A match over the three cases of a job, of which one has no mask.
 fn has_kind(kind: Kind, job: Job) -> bool
     ensures { result ≡ has_kind kind job }
 {
     match job {
         Job::Absent => false,
-        Job::Counted {
-            left: _,
-            mask,
-            sent: _,
-        } => layout::is_of(kind, mask),
-        Job::Endless { mask, sent: _ } => layout::is_of(kind, mask),
+        Job::Counted { mask, .. } | Job::Endless { mask, .. } => layout::is_of(kind, mask),
     }
 }
 
@@ -54,10 +48,8 @@ fn has_kind(kind: Kind, job: Job) -> bool
 pub(crate) fn cancelled(kind: Kind, state: State) -> State
     ensures { result ≡ Measurement·cancelled kind state }
 {
-    let job = state.job;
-    if has_kind(kind, job) {
-        let mode = state.mode;
-        return state::with_drive(state, mode, state.running, Job::Absent);
+    if has_kind(kind, state.job) {
+        return state::with_drive(state, state.mode, state.running, Job::Absent);
     }
     state
 }

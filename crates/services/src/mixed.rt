@@ -3,7 +3,7 @@ ghost use Rattle.services.specs.Answers.{Gives};
 ghost use Rattle.services.specs.Mixed.{get_mixed_profile, cancel_mixed_profile};
 
 use crate::Served;
-use crate::answers::{four_words, no_word, two_words};
+use crate::answers::{no_word, say};
 use crate::measurement::{cancelled, new_job};
 use crate::nav300::BAD_VALUE;
 use layout::{Kind, Mask};
@@ -15,15 +15,14 @@ pub fn get_mixed_profile(state: State, code: u16, number: u16, high: u16, low: u
 {
     let mask = Mask::Mixed(high, low);
     if !layout::admitted(mask) {
-        return four_words(state, code, high, low, BAD_VALUE);
+        return say(state, &[code, high, low, BAD_VALUE]);
     }
-    let mode = state.mode;
     let job = new_job(number, mask);
-    no_word(state::with_drive(state, mode, state.running, job))
+    no_word(state::with_drive(state, state.mode, state.running, job))
 }
 
 pub fn cancel_mixed_profile(state: State, code: u16) -> Served
     ensures { Gives result (cancel_mixed_profile state code) }
 {
-    two_words(cancelled(Kind::Mixed, state), code, 0)
+    say(cancelled(Kind::Mixed, state), &[code, 0])
 }

@@ -5,7 +5,7 @@ ghost use Rattle.services.specs.Answers.{Gives};
 ghost use Rattle.services.specs.Nav300.{set_rotate_direction, get_rotate_direction, value_said, set_reflector_config, get_reflector_config, save_permanent};
 
 use crate::Served;
-use crate::answers::{three_words, two_words};
+use crate::answers::say;
 use state::{Reflector, Settings, State};
 use units::{Millimetres, Percent};
 
@@ -16,28 +16,26 @@ pub fn set_rotate_direction(state: State, code: u16, rotation: u16) -> Served
     ensures { Gives result (set_rotate_direction state code rotation) }
 {
     if !state::rotation_ok(rotation) {
-        return two_words(state, code, BAD_VALUE);
+        return say(state, &[code, BAD_VALUE]);
     }
-    let old = state.settings;
-    let settings = Settings { rotation, ..old };
-    two_words(state::with_settings(state, settings), code, rotation)
+    let settings = Settings {
+        rotation,
+        ..state.settings
+    };
+    say(state::with_settings(state, settings), &[code, rotation])
 }
 
 pub fn get_rotate_direction(state: State, code: u16) -> Served
     ensures { Gives result (get_rotate_direction state code) }
 {
-    let settings = state.settings;
-    two_words(state, code, settings.rotation)
+    say(state, &[code, state.settings.rotation])
 }
 
 // What the answer has in a value's own place (rule 4.20).
 fn value_said(good: bool, value: u16) -> u16
     ensures { result ≡ value_said good value }
 {
-    if good {
-        return value;
-    }
-    BAD_VALUE
+    if good { value } else { BAD_VALUE }
 }
 
 // Both values are tested first: where one is bad, the other is answered and not stored (rule 4.20).
@@ -53,44 +51,42 @@ pub fn set_reflector_config(
     let radius_good = state::radius_ok(radius);
     let first = value_said(threshold_good, threshold.0);
     let second = value_said(radius_good, radius.0);
-    if !(threshold_good & radius_good) {
-        return three_words(state, code, first, second);
+    if !(threshold_good && radius_good) {
+        return say(state, &[code, first, second]);
     }
-    let old = state.settings;
-    let working = Reflector { threshold, radius };
-    let settings = Settings { working, ..old };
-    three_words(state::with_settings(state, settings), code, first, second)
+    let settings = Settings {
+        working: Reflector { threshold, radius },
+        ..state.settings
+    };
+    say(
+        state::with_settings(state, settings),
+        &[code, first, second],
+    )
 }
 
 pub fn get_reflector_config(state: State, code: u16) -> Served
     ensures { Gives result (get_reflector_config state code) }
 {
-    let settings = state.settings;
-    let pair = settings.working;
-    let threshold = pair.threshold;
-    let radius = pair.radius;
-    three_words(state, code, threshold.0, radius.0)
+    let pair = state.settings.working;
+    say(state, &[code, pair.threshold.0, pair.radius.0])
 }
 
 pub fn save_permanent(state: State, code: u16) -> Served
     ensures { Gives result (save_permanent state code) }
 {
-    let old = state.settings;
-    let working = old.working;
     let settings = Settings {
-        stored: working,
-        ..old
+        stored: state.settings.working,
+        ..state.settings
     };
-    two_words(state::with_settings(state, settings), code, 0)
+    say(state::with_settings(state, settings), &[code, 0])
 }
 
 // The stored pair taken back, as by DO_RESET (rule 4.12).
 pub(crate) fn restored(settings: Settings) -> Settings
     ensures { result ≡ Nav300·restored settings }
 {
-    let stored = settings.stored;
     Settings {
-        working: stored,
+        working: settings.stored,
         ..settings
     }
 }

@@ -3,7 +3,7 @@ ghost use Rattle.services.specs.Answers.{Gives};
 ghost use Rattle.services.specs.Status.{get_status, get_signal, set_signal};
 
 use crate::Served;
-use crate::answers::{answer_status, two_words};
+use crate::answers::{answer_status, say};
 use state::State;
 
 pub fn get_status(state: State, code: u16) -> Served
@@ -15,7 +15,7 @@ pub fn get_status(state: State, code: u16) -> Served
 pub fn get_signal(state: State, code: u16) -> Served
     ensures { Gives result (get_signal state code) }
 {
-    two_words(state, code, state.port as u16)
+    say(state, &[code, state.port as u16])
 }
 
 // Bits 2 and 3 of the port stay (rule 4.5).
@@ -24,5 +24,5 @@ pub fn set_signal(state: State, code: u16, word: u16) -> Served
 {
     let low = (word % 256) as u8;
     let port = low / 16 * 16 + state.port / 4 % 4 * 4 + low % 4;
-    two_words(state::with_port(state, port), code, port as u16)
+    say(state::with_port(state, port), &[code, port as u16])
 }

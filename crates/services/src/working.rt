@@ -1,11 +1,13 @@
 // DO_RESET, TRANS_IDLE, TRANS_ROTATE, TRANS_MEASURE.
 ghost use Rattle.std.specs.Prelude.{◌≡◌};
+ghost use Rattle.plan.specs.Checks.{error_said};
 ghost use Rattle.services.specs.Answers.{Gives};
 ghost use Rattle.services.specs.Working.{idle_of, cold_of, stop_measure, reset_of, do_reset, trans_idle, rotate_of, trans_rotate, measure_of, trans_measure};
 
 use crate::Served;
-use crate::answers::{answer_status, answer_status_and, two_words};
+use crate::answers::{answer_status, answer_status_and, say};
 use crate::nav300::restored;
+use plan::MeasureError;
 use state::{Job, Mode, State};
 
 // IDLE at running speed 0, with no job (rule 4.14).
@@ -20,42 +22,35 @@ fn idle(state: State) -> State
 fn cold(state: State) -> State
     ensures { result ≡ cold_of state }
 {
-    let stored = state.stored;
-    let settings = state.settings;
-    let stopped = idle(state);
-    let planned = state::with_plans(stopped, stored, stored);
+    let planned = state::with_plans(idle(state), state.stored, state.stored);
     let cleared = state::with_counter(state::with_port(planned, 0), 0);
-    state::with_settings(cleared, restored(settings))
+    state::with_settings(cleared, restored(state.settings))
 }
 
 // MEASURE becomes ROTATE with no job; other modes stay (rule 4.13).
 fn stop_measure(state: State) -> State
     ensures { result ≡ stop_measure state state.mode }
 {
-    let mode = state.mode;
-    match mode {
-        Mode::Idle => state,
-        Mode::Rotate => state,
-        Mode::Measure => { state::with_drive(state, Mode::Rotate, state.running, Job::Absent) }
+    match state.mode {
+        Mode::Idle | Mode::Rotate => state,
+        Mode::Measure => state::with_drive(state, Mode::Rotate, state.running, Job::Absent),
     }
 }
 
 fn reset(state: State, level: u16) -> State
     ensures { result ≡ reset_of state level }
 {
-    if level < 2 {
-        return cold(state);
+    match level {
+        0 | 1 => cold(state),
+        2 => stop_measure(state),
+        _ => state,
     }
-    if level == 2 {
-        return stop_measure(state);
-    }
-    state
 }
 
 pub fn do_reset(state: State, code: u16, level: u16) -> Served
     ensures { Gives result (do_reset state code level) }
 {
-    two_words(reset(state, level), code, level)
+    say(reset(state, level), &[code, level])
 }
 
 pub fn trans_idle(state: State, code: u16) -> Served
@@ -83,22 +78,20 @@ pub fn trans_rotate(state: State, code: u16, speed: u16) -> Served
     answer_status(rotate(state, speed), code)
 }
 
-// MEASURE at error 0, and a running job goes on; else ROTATE with no job (rule 4.16).
-fn measured(state: State, error: u16) -> State
-    ensures { result ≡ measure_of state error }
+// MEASURE where no check fails, and a running job goes on; else ROTATE with no job (rule 4.16).
+fn measured(state: State, checked: Result<(), MeasureError>) -> State
+    ensures { result ≡ measure_of state (error_said checked) }
 {
-    if error != 0 {
-        return state::with_drive(state, Mode::Rotate, state.running, Job::Absent);
+    match checked {
+        Ok(()) => state::with_drive(state, Mode::Measure, state.running, state.job),
+        Err(_) => state::with_drive(state, Mode::Rotate, state.running, Job::Absent),
     }
-    let job = state.job;
-    state::with_drive(state, Mode::Measure, state.running, job)
 }
 
 pub fn trans_measure(state: State, code: u16) -> Served
     ensures { Gives result (trans_measure state code) }
 {
-    let working = state.working;
-    let step = state.step;
-    let error = plan::measure_error(working, step, state.running);
-    answer_status_and(measured(state, error), code, error)
+    let checked = plan::check_measure(state.working, state.step, state.running);
+    let error = checked.err().map_or(0, MeasureError::number);
+    answer_status_and(measured(state, checked), code, error)
 }

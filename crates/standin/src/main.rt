@@ -2,7 +2,7 @@
 // line are is the library's; here is only the way from one block of bytes to the next (rule 7.10).
 #![tactic(auto)]
 
-ghost use Rattle.std.specs.Prelude.{◌≡◌, ◌≤◌, length, IfOk, OnErr};
+ghost use Rattle.std.specs.Prelude.{◌≡◌, ◌≤◌, length, IfOk, IfSome, OnErr};
 
 use state::State;
 use std::io::{self, Read, Stdin, Stdout};
@@ -27,67 +27,50 @@ fn answer_block(start: Talk, bytes: &[u8], text: &mut [u8]) -> Block
     ensures { (result.taken ≤ length bytes.now) × (result.filled ≤ length text.old) }
 {
     let mut talk = start;
-    let mut taken: usize = 0;
-    let mut filled: usize = 0;
-    loop {
-        let number = talk.count.wrapping_add(1);
-        let state = talk.state;
-        let said = dialogue::answer(state, number, &bytes[taken..], &mut text[filled..]);
-        if said.length == 0 {
-            return Block {
-                talk,
-                taken,
-                filled,
-            };
-        }
-        let next = said.state;
+    let mut taken = 0;
+    let mut filled = 0;
+    while let Some(said) = dialogue::answer(
+        talk.state,
+        talk.count.wrapping_add(1),
+        &bytes[taken..],
+        &mut text[filled..],
+    ) {
         talk = Talk {
-            state: next,
-            count: number,
+            state: said.state,
+            count: talk.count.wrapping_add(1),
         };
         taken += said.taken;
         filled += said.length;
     }
-}
-
-// The bytes from a place on, moved to the front; how many they are.
-fn move_down(bytes: &mut [u8], from: usize, have: usize) -> usize
-    requires { have ≤ length bytes.old }
-    ensures { result ≤ have }
-{
-    let mut to: usize = 0;
-    let mut i = from;
-    while i < have {
-        bytes[to] = bytes[i];
-        to += 1;
-        i += 1;
+    Block {
+        talk,
+        taken,
+        filled,
     }
-    to
 }
 
-// What more the input has, behind the bytes that there are; how many there are then, no more than before where it has ended. An input
-// that fails has ended.
-fn read_more(mut input: Stdin, bytes: &mut [u8], have: usize) -> usize
+// What more the input has, behind the bytes that there are; how many there are then, or none where it has ended. An input that fails has
+// ended.
+fn read_more(mut input: Stdin, bytes: &mut [u8], have: usize) -> Option<usize>
     requires { have ≤ length bytes.old }
-    ensures { result ≤ length bytes.old }
+    ensures { IfSome result (λ now. now ≤ length bytes.old) }
 {
     match input.read(&mut bytes[have..]) {
-        Ok(got) => have + got,
-        Err(_) => have,
+        Ok(0) | Err(_) => None,
+        Ok(got) => Some(have + got),
     }
 }
 
-// Where the talk stands, how many bytes are not taken yet, and whether the input has ended.
+// Where the talk stands, and how many bytes are not taken yet.
 #[derive(Clone, Copy)]
 struct Turn {
     talk: Talk,
     have: usize,
-    ended: bool,
 }
 
 // The lines of every whole record that there is are written before anything more is read: more is read only where no line came of
-// the bytes, which then hold no whole record, since the text has room for every line. An output that fails ends the talk with its
-// error, and leaves the bytes as they were.
+// the bytes, which then hold no whole record, since the text has room for every line. Where the input has ended there is no turn. An
+// output that fails ends the talk with its error, and leaves the bytes as they were.
 fn take_turn(
     input: Stdin,
     output: Stdout,
@@ -95,28 +78,21 @@ fn take_turn(
     bytes: &mut [u8],
     have: usize,
     text: &mut [u8],
-) -> io::Result<Turn>
+) -> io::Result<Option<Turn>>
     requires { have ≤ length bytes.old }
-    ensures ok { IfOk result (λ turn. turn.have ≤ length bytes.old) }
+    ensures ok { IfOk result (λ turn. IfSome turn (λ t. t.have ≤ length bytes.old)) }
     ensures err { OnErr result (bytes.new ≡ bytes.old) }
 {
     let block = answer_block(talk, &bytes[..have], text);
-    let filled = block.filled;
-    let next = block.talk;
-    if filled != 0 {
-        output.write_all(&text[..filled])?;
-        return Ok(Turn {
-            talk: next,
-            have: move_down(bytes, block.taken, have),
-            ended: false,
-        });
+    if block.filled == 0 {
+        return Ok(read_more(input, bytes, have).map(|now| Turn { talk, have: now }));
     }
-    let now = read_more(input, bytes, have);
-    Ok(Turn {
-        talk: next,
-        have: now,
-        ended: now == have,
-    })
+    output.write_all(&text[..block.filled])?;
+    bytes.copy_within(block.taken..have, 0);
+    Ok(Some(Turn {
+        talk: block.talk,
+        have: have - block.taken,
+    }))
 }
 
 fn main(rt: HostRuntime) -> io::Result<()> {
@@ -129,15 +105,13 @@ fn main(rt: HostRuntime) -> io::Result<()> {
         state: state::fresh(),
         count: 0,
     };
-    let mut have: usize = 0;
+    let mut have = 0;
     for _ in 0..u64::MAX {
-        let done = take_turn(input, output, talk, &mut bytes, have, &mut text)?;
-        let next = done.talk;
-        talk = next;
-        have = done.have;
-        if done.ended {
+        let Some(turn) = take_turn(input, output, talk, &mut bytes, have, &mut text)? else {
             break;
-        }
+        };
+        talk = turn.talk;
+        have = turn.have;
     }
     if have == 0 {
         output.write_all(b"end\n")

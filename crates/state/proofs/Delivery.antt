@@ -8,27 +8,29 @@ use lib.Dec.{ltb}
 use lib.ListN.{length}
 use native.Mathlib.Omega.{arith}
 use borrow.Author.Tests.{lt-ltb, le-ltb, ltb-false}
-use Rattle.std.specs.Prelude.{if◌then◌else◌}
+use Rattle.std.specs.Prelude.{Result, Ok, Err, if◌then◌else◌}
 use Rattle.words.specs.Buffers.{over}
 use Rattle.words.proofs.Overs.{over_none}
 use Rattle.words.proofs.Tests.{picked}
 use Rattle.state.specs.declared.State.{State}
 use Rattle.state.specs.declared.Reply.{Reply}
-use Rattle.state.specs.Replies.{Outcome, Result, refused, delivered, Answered, Unchanged}
+use Rattle.state.specs.declared.Refusal.{Refusal}
+use Rattle.state.specs.declared.Refusal.TheVariants.{NoRoom}
+use Rattle.state.specs.Replies.{refusal_number, Outcome, Effect, refused, delivered, Answered, Unchanged}
 
-abbrev pub reply : State → ℕ → ℕ → Reply
-reply s refusal count = record { state = s; refusal = refusal; count = count }
+abbrev pub served : State → ℕ → Result Reply Refusal
+served s count = Ok (record { state = s; count = count })
 
-pub is_refused_lem : (s : State) (n : ℕ) (d : List ℕ) → Answered (reply s n 0) d d (refused s n)
-is_refused_lem s n d = record { reply = refl; buffer = sym (over_none d) }
+pub is_refused_lem : (s : State) (e : Refusal) (d : List ℕ) → Answered s (Err e) d d (refused s (refusal_number e))
+is_refused_lem s e d = record { reply = refl; buffer = sym (over_none d) }
 
 module _ (s : State) (o : Outcome) (d : List ℕ) (n : ℕ) (long : length o.words ≡ n) where
-  pub no_room : length d < n → Answered (reply s 6 0) d d (delivered s o (length d))
+  pub no_room : length d < n → Answered s (Err NoRoom) d d (delivered s o (length d))
   unfolding delivered
-  no_room h = rw (long, lt-ltb _ _ h) (is_refused_lem s 6 d)
+  no_room h = rw (long, lt-ltb _ _ h) (is_refused_lem s NoRoom d)
 
   pub has_room : n ≤ length d → (after : List ℕ) → after ≡ over o.words d
-      → Answered (reply o.after 0 n) d after (delivered s o (length d))
+      → Answered s (served o.after n) d after (delivered s o (length d))
   unfolding delivered
   has_room h after e = rw (long, le-ltb _ _ h) (record { reply = refl; buffer = e })
 
@@ -37,11 +39,11 @@ pub refused_unchanged : (s : State) (n : ℕ) (d : List ℕ) → Unchanged s d (
 refused_unchanged s n d = record { state = refl; count = refl; buffer = over_none d }
 
 -- an outcome that has room
-abbrev pub done : Outcome → Result
-done o = record { reply = reply o.after 0 (length o.words); written = o.words }
+abbrev pub done : Outcome → Effect
+done o = record { reply = record { state = o.after; refusal = 0; count = length o.words }; written = o.words }
 
 -- what holds of refusal 6 and of the outcome holds of the delivery
-pub delivered_by : (P : Result → Type 0) (s : State) (o : Outcome) (room : ℕ) → P (refused s 6) → P (done o) → P (delivered s o room)
+pub delivered_by : (P : Effect → Type 0) (s : State) (o : Outcome) (room : ℕ) → P (refused s 6) → P (done o) → P (delivered s o room)
 unfolding delivered
 delivered_by P s o room h k = picked P (ltb room (length o.words)) (refused s 6) (done o) h k
 

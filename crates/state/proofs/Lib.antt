@@ -1,5 +1,5 @@
-pub mod InRange
 pub mod Delivery
+pub mod HandedLaws
 pub mod SettingsParts
 pub mod Parts
 pub mod Measuring

@@ -49,7 +49,7 @@ with_alone p h =
 
 -- The stored plan and the settings, and the fields that stand alone where the plan is another.
 pub stored_of : (s : State) → Parts s → T (plan_in_range s.stored)
-stored_of s p = let h = p.alone in search (and_l, and_r)
+stored_of s p = let h = p.alone in search and_l
 
 pub settings_of_lem : (s : State) → Parts s → InRanges s.settings
 settings_of_lem s p = let h = p.alone in settings_parts s.settings (search (and_l, and_r))

@@ -9,15 +9,7 @@ use layout::Mask;
 pub fn is_job(job: Job) -> bool
     ensures { result ≡ is_job job }
 {
-    match job {
-        Job::Absent => false,
-        Job::Counted {
-            left: _,
-            mask: _,
-            sent: _,
-        } => true,
-        Job::Endless { mask: _, sent: _ } => true,
-    }
+    !matches!(job, Job::Absent)
 }
 
 // Its mask; where there is no job, a plain one of no bit.
@@ -26,11 +18,6 @@ pub fn mask_of(job: Job) -> Mask
 {
     match job {
         Job::Absent => Mask::Plain(0),
-        Job::Counted {
-            left: _,
-            mask,
-            sent: _,
-        } => mask,
-        Job::Endless { mask, sent: _ } => mask,
+        Job::Counted { mask, .. } | Job::Endless { mask, .. } => mask,
     }
 }

@@ -7,9 +7,5 @@ use crate::Mode;
 pub fn mode_number(mode: Mode) -> u16
     ensures { result ≡ mode_number mode }
 {
-    match mode {
-        Mode::Idle => 1,
-        Mode::Rotate => 2,
-        Mode::Measure => 3,
-    }
+    mode as u16
 }

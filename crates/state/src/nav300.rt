@@ -16,10 +16,7 @@ pub fn rotation_ok(rotation: u16) -> bool
 pub fn threshold_ok(threshold: Percent) -> bool
     ensures { result ≡ threshold_ok threshold.0 }
 {
-    if threshold.0 < 1 {
-        return false;
-    }
-    threshold.0 <= 100
+    (1..=100).contains(&threshold.0)
 }
 
 // Up to 127 mm.
@@ -33,16 +30,14 @@ pub fn radius_ok(radius: Millimetres) -> bool
 fn reflector_ok(reflector: Reflector) -> bool
     ensures { result ≡ reflector_ok reflector }
 {
-    let threshold = reflector.threshold;
-    let radius = reflector.radius;
-    threshold_ok(threshold) & radius_ok(radius)
+    threshold_ok(reflector.threshold) && radius_ok(reflector.radius)
 }
 
 // All of them.
 pub(crate) fn settings_ok(settings: Settings) -> bool
     ensures { result ≡ settings_ok settings }
 {
-    let working = settings.working;
-    let stored = settings.stored;
-    rotation_ok(settings.rotation) & reflector_ok(working) & reflector_ok(stored)
+    rotation_ok(settings.rotation)
+        && reflector_ok(settings.working)
+        && reflector_ok(settings.stored)
 }

@@ -11,26 +11,15 @@ use units::Angle;
 pub fn speed_ok(speed: u16) -> bool
     ensures { result ≡ speed_ok speed }
 {
-    if speed < 5 {
-        return false;
-    }
-    speed <= 20
+    (5..=20).contains(&speed)
 }
 
 // An id, a speed and a step that a configuration may have (rule 2.1).
+#[tactic(auto, unfolding(crate::specs::Ranges::config_ok))]
 pub fn config_ok(id: u16, speed: u16, step: Angle) -> bool
     ensures { result ≡ config_ok id speed step.0 }
 {
-    if id < 1 {
-        return false;
-    }
-    if 254 < id {
-        return false;
-    }
-    if !speed_ok(speed) {
-        return false;
-    }
-    plan::is_step(step)
+    (1..=254).contains(&id) && speed_ok(speed) && plan::is_step(step)
 }
 
 // The running speed goes with the mode, and in MEASURE the working plan passes the four checks (rules 2.4 and 2.5).
@@ -40,23 +29,14 @@ fn drive_ok(mode: Mode, running: u16, working: Plan, step: Angle) -> bool
     match mode {
         Mode::Idle => running == 0,
         Mode::Rotate => speed_ok(running),
-        Mode::Measure => {
-            if !speed_ok(running) {
-                return false;
-            }
-            plan::measure_error(working, step, running) == 0
-        }
+        Mode::Measure => speed_ok(running) && plan::check_measure(working, step, running).is_ok(),
     }
 }
 
 pub fn is_measure(mode: Mode) -> bool
     ensures { result ≡ is_measure mode }
 {
-    match mode {
-        Mode::Idle => false,
-        Mode::Rotate => false,
-        Mode::Measure => true,
-    }
+    matches!(mode, Mode::Measure)
 }
 
 // A job exists only in MEASURE, with a mask, a number left and a number sent that it may have (rules 2.7 and 2.11).
@@ -66,23 +46,12 @@ fn job_ok(mode: Mode, job: Job) -> bool
     match job {
         Job::Absent => true,
         Job::Counted { left, mask, sent } => {
-            if !is_measure(mode) {
-                return false;
-            }
-            if !layout::admitted(mask) {
-                return false;
-            }
-            if left < 1 {
-                return false;
-            }
-            left as u32 + sent as u32 <= 65535
+            is_measure(mode)
+                && layout::admitted(mask)
+                && left >= 1
+                && left.checked_add(sent).is_some()
         }
-        Job::Endless { mask, sent: _ } => {
-            if !is_measure(mode) {
-                return false;
-            }
-            layout::admitted(mask)
-        }
+        Job::Endless { mask, .. } => is_measure(mode) && layout::admitted(mask),
     }
 }
 
@@ -90,23 +59,17 @@ fn job_ok(mode: Mode, job: Job) -> bool
 fn alone_ok(state: State) -> bool
     ensures { result ≡ alone_ok state }
 {
-    let stored = state.stored;
-    let settings = state.settings;
-    plan::plan_in_range(stored) & settings_ok(settings)
+    plan::plan_in_range(state.stored) && settings_ok(state.settings)
 }
 
 // Every field is in its range. A state is so as a rule, so no test is left out (rule 2.8).
+#[tactic(auto, unfolding(crate::specs::Ranges::in_range))]
 pub fn in_range(state: State) -> bool
     ensures { result ≡ in_range state }
 {
-    let step = state.step;
-    let working = state.working;
-    let mode = state.mode;
-    let job = state.job;
-    let configured = config_ok(state.id, state.speed, step);
-    let works = plan::plan_in_range(working);
-    let drives = drive_ok(mode, state.running, working, step);
-    let sends = job_ok(mode, job);
-    let keeps = alone_ok(state);
-    configured & works & drives & sends & keeps
+    config_ok(state.id, state.speed, state.step)
+        & plan::plan_in_range(state.working)
+        & drive_ok(state.mode, state.running, state.working, state.step)
+        & job_ok(state.mode, state.job)
+        & alone_ok(state)
 }

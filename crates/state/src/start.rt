@@ -8,14 +8,11 @@ use units::{Angle, Millimetres, Percent};
 pub fn fresh() -> State
     ensures { FreshSays result }
 {
-    let unused = plan::unused();
-    let zeroth = Sector {
+    let mut sectors = [plan::unused(); 8];
+    sectors[0] = Sector {
         function: 3,
         stop: Angle(5752),
     };
-    let sectors = [
-        zeroth, unused, unused, unused, unused, unused, unused, unused,
-    ];
     let plan = Plan { sectors };
     let reflector = Reflector {
         threshold: Percent(50),

@@ -11,12 +11,12 @@ use std::io::{self, Read, Stdin, Stdout};
 fn read_full(mut input: Stdin, bytes: &mut [u8]) -> usize
     ensures { result ≤ length bytes.old }
 {
-    let mut have: usize = 0;
+    // Stays a loop: one read may give fewer bytes than there is room for.
+    let mut have = 0;
     while have < bytes.len() {
         match input.read(&mut bytes[have..]) {
-            Ok(0) => return have,
+            Ok(0) | Err(_) => return have,
             Ok(got) => have += got,
-            Err(_) => return have,
         }
     }
     have
@@ -28,20 +28,15 @@ fn answer_all(output: Stdout, bytes: &[u8]) -> io::Result<usize>
 {
     let mut state = state::fresh();
     let mut number: u64 = 1;
-    let mut at: usize = 0;
-    loop {
-        let mut text = [0u8; 64];
-        let said = dialogue::answer(state, number, &bytes[at..], &mut text);
-        let length = said.length;
-        if length == 0 {
-            return Ok(at);
-        }
-        output.write_all(&text[..length])?;
-        let next = said.state;
-        state = next;
+    let mut at = 0;
+    let mut text = [0u8; 64];
+    while let Some(said) = dialogue::answer(state, number, &bytes[at..], &mut text) {
+        output.write_all(&text[..said.length])?;
+        state = said.state;
         number = number.wrapping_add(1);
         at += said.taken;
     }
+    Ok(at)
 }
 
 fn main(rt: HostRuntime) -> io::Result<()> {

@@ -1,44 +1,37 @@
-// The words of an answer, put one after another: each put answers with the place behind what it put.
-ghost use Rattle.std.specs.Prelude.{◌≤◌};
-
-// What a line says of a case beside its words: the refusal, and how many words there are.
-#[derive(Clone, Copy)]
-pub(crate) struct Said {
-    pub(crate) refusal: u16,
-    pub(crate) count: usize,
+// The words of an answer, put one after another into a lent buffer. A word that has no room is left out.
+#[derive(Drop)]
+pub(crate) struct Answer<'a> {
+    out: &'a mut [u16],
+    count: usize,
 }
 
-// The number, or the most that it may be.
-pub(crate) fn at_most(n: usize, most: usize) -> usize
-    ensures { result ≤ most }
-{
-    if n < most {
-        return n;
+impl<'a> Answer<'a> {
+    pub(crate) fn new(out: &'a mut [u16]) -> Answer<'a> {
+        Answer { out, count: 0 }
     }
-    most
-}
 
-// One word, where there is room.
-pub(crate) fn put(out: &mut [u16], at: usize, w: u16) -> usize {
-    if at < out.len() {
-        out[at] = w;
-        return at + 1;
+    // One word.
+    pub(crate) fn put(&mut self, w: u16) {
+        if self.count < self.out.len() {
+            self.out[self.count] = w;
+            self.count += 1;
+        }
     }
-    at
-}
 
-// A count or a place: none is above 8191.
-pub(crate) fn put_number(out: &mut [u16], at: usize, n: usize) -> usize {
-    put(out, at, (n % 65536) as u16)
-}
-
-// All the words of a list.
-pub(crate) fn put_all(out: &mut [u16], at: usize, words: &[u16]) -> usize {
-    let mut next = at;
-    let mut k: usize = 0;
-    while k < words.len() {
-        next = put(out, next, words[k]);
-        k += 1;
+    // A count or a place: none is above 8191.
+    pub(crate) fn put_number(&mut self, n: usize) {
+        self.put((n % 65536) as u16);
     }
-    next
+
+    // All the words of a list.
+    pub(crate) fn put_all(&mut self, words: &[u16]) {
+        for w in words {
+            self.put(*w);
+        }
+    }
+
+    // The words that were put.
+    pub(crate) fn words(&self) -> &[u16] {
+        &self.out[..self.count.min(self.out.len())]
+    }
 }

@@ -1,162 +1,130 @@
 // A reading as words.
-use crate::answers::{put, put_number};
-use reader::{MixedPart, MixedPlace, MixedReading, Part, Place, Reading, SectorReading};
-use words::Word;
+use crate::answers::Answer;
+use reader::{ContourReading, MixedPart, MixedReading, Part, ReadRefusal, Reading, SectorReading};
+
+// How many words a contour has whose words are all absent: three, the count, nine for each of eight sectors, two.
+const CONTOUR_WORDS: usize = 3 + 1 + 8 * 9 + 2;
 
 // A word that can be absent: 0, or 1 and then the word.
-fn put_word(out: &mut [u16], at: usize, word: Word) -> usize {
+fn put_word(out: &mut Answer, word: Option<u16>) {
     match word {
-        Word::Absent => put(out, at, 0),
-        Word::Given(w) => {
-            let next = put(out, at, 1);
-            put(out, next, w)
-        }
+        None => out.put(0),
+        Some(w) => out.put_all(&[1, w]),
+    }
+}
+
+// Words that can be absent, one after another.
+fn put_words(out: &mut Answer, words: &[Option<u16>]) {
+    for word in words {
+        put_word(out, *word);
     }
 }
 
 // One of the eight places for a sector.
-fn put_sector(out: &mut [u16], at: usize, sector: SectorReading) -> usize {
-    let number = sector.number;
-    let step = sector.step;
-    let points = sector.points;
-    let tstart = sector.tstart;
-    let startdir = sector.startdir;
-    let tend = sector.tend;
-    let enddir = sector.enddir;
-    let mut next = put_word(out, at, number);
-    next = put_word(out, next, step);
-    next = put_word(out, next, points);
-    next = put_word(out, next, tstart);
-    next = put_word(out, next, startdir);
-    next = put_number(out, next, sector.start);
-    next = put_number(out, next, sector.len);
-    next = put_word(out, next, tend);
-    put_word(out, next, enddir)
+fn put_sector(out: &mut Answer, sector: SectorReading) {
+    put_words(
+        out,
+        &[
+            sector.number,
+            sector.step,
+            sector.points,
+            sector.tstart,
+            sector.startdir,
+        ],
+    );
+    out.put_number(sector.start);
+    out.put_number(sector.len);
+    put_words(out, &[sector.tend, sector.enddir]);
 }
 
-// All eight places.
-fn put_sectors(out: &mut [u16], at: usize, sectors: [SectorReading; 8]) -> usize {
-    let mut next = at;
-    let mut k: usize = 0;
-    while k < 8 {
-        let sector = sectors[k];
-        next = put_sector(out, next, sector);
-        k += 1;
+// A part of a profile as two words: its number, and the place of a sector or of a reflector, 0 in another part.
+trait PutPart {
+    fn put_part(self, out: &mut Answer);
+}
+
+impl PutPart for Part {
+    fn put_part(self, out: &mut Answer) {
+        match self {
+            Part::Head => out.put_all(&[1, 0]),
+            Part::Sector(k) => {
+                out.put(2);
+                out.put_number(k);
+            }
+            Part::Senstat => out.put_all(&[3, 0]),
+        }
     }
-    next
 }
 
-// The part by its number, and the sector's place, 0 in another part.
-fn put_part(out: &mut [u16], at: usize, part: Part) -> usize {
-    match part {
-        Part::Head => {
-            let next = put(out, at, 1);
-            put(out, next, 0)
-        }
-        Part::Sector(k) => {
-            let next = put(out, at, 2);
-            put_number(out, next, k)
-        }
-        Part::Senstat => {
-            let next = put(out, at, 3);
-            put(out, next, 0)
+impl PutPart for MixedPart {
+    fn put_part(self, out: &mut Answer) {
+        match self {
+            MixedPart::Contour(part) => part.put_part(out),
+            MixedPart::Count => out.put_all(&[4, 0]),
+            MixedPart::Reflector(r) => {
+                out.put(5);
+                out.put_number(r);
+            }
         }
     }
 }
 
 // Where the words end early: 0 for nowhere, or the part and the index.
-fn put_place(out: &mut [u16], at: usize, place: Place) -> usize {
-    match place {
-        Place::Nowhere => put(out, at, 0),
-        Place::At(index, part) => {
-            let next = put_part(out, at, part);
-            put_number(out, next, index)
+fn put_place<P: PutPart + Copy>(out: &mut Answer, refusal: ReadRefusal<P>) {
+    match refusal {
+        ReadRefusal::EndsEarly { at, part } => {
+            part.put_part(out);
+            out.put_number(at);
+        }
+        _ => out.put(0),
+    }
+}
+
+// The words of bits 0 to 13: those in front of the sectors, how many sectors there are, the sectors, and SENSTAT.
+fn put_contour(out: &mut Answer, contour: ContourReading) {
+    put_words(out, &[contour.sent, contour.counter, contour.layer]);
+    out.put_number(contour.count);
+    for sector in contour.sectors {
+        put_sector(out, sector);
+    }
+    put_words(out, &[contour.high, contour.low]);
+}
+
+// The whole reading; of one that is refused every word is absent, and every number 0. Its number for no.
+pub(crate) fn put_reading(out: &mut Answer, answer: Result<Reading, ReadRefusal<Part>>) -> u16 {
+    match answer {
+        Ok(reading) => {
+            put_word(out, Some(reading.mask));
+            put_contour(out, reading.contour);
+            out.put(0);
+            0
+        }
+        Err(refusal) => {
+            out.put_all(&[0; 1 + CONTOUR_WORDS]);
+            put_place(out, refusal);
+            refusal.number()
         }
     }
 }
 
-// The words of bits 0 to 2, which stand in front of the sectors in either kind of profile.
-fn put_front(out: &mut [u16], at: usize, sent: Word, counter: Word, layer: Word) -> usize {
-    let mut next = put_word(out, at, sent);
-    next = put_word(out, next, counter);
-    put_word(out, next, layer)
-}
-
-// How many sectors there are, the sectors, and SENSTAT.
-fn put_rest(
-    out: &mut [u16],
-    at: usize,
-    count: usize,
-    sectors: [SectorReading; 8],
-    high: Word,
-    low: Word,
-) -> usize {
-    let mut next = put_number(out, at, count);
-    next = put_sectors(out, next, sectors);
-    next = put_word(out, next, high);
-    put_word(out, next, low)
-}
-
-// The whole reading; how many words it has.
-pub(crate) fn put_reading(out: &mut [u16], reading: Reading) -> usize {
-    let mask = reading.mask;
-    let sent = reading.sent;
-    let counter = reading.counter;
-    let layer = reading.layer;
-    let sectors = reading.sectors;
-    let high = reading.high;
-    let low = reading.low;
-    let place = reading.place;
-    let mut next = put_word(out, 0, mask);
-    next = put_front(out, next, sent, counter, layer);
-    next = put_rest(out, next, reading.count, sectors, high, low);
-    put_place(out, next, place)
-}
-
-// The part of a mixed profile by its number, and the place of the sector or of the reflector, 0 in another part.
-fn put_mixed_part(out: &mut [u16], at: usize, part: MixedPart) -> usize {
-    match part {
-        MixedPart::Contour(inner) => put_part(out, at, inner),
-        MixedPart::Count => {
-            let next = put(out, at, 4);
-            put(out, next, 0)
+// The whole reading of a mixed profile, and its number for no, in the same way.
+pub(crate) fn put_mixed_reading(
+    out: &mut Answer,
+    answer: Result<MixedReading, ReadRefusal<MixedPart>>,
+) -> u16 {
+    match answer {
+        Ok(reading) => {
+            put_words(out, &[Some(reading.upper), Some(reading.lower)]);
+            put_contour(out, reading.contour);
+            put_word(out, reading.reflectors);
+            out.put_number(reading.start);
+            out.put_number(reading.width);
+            out.put(0);
+            0
         }
-        MixedPart::Reflector(r) => {
-            let next = put(out, at, 5);
-            put_number(out, next, r)
+        Err(refusal) => {
+            out.put_all(&[0; 5 + CONTOUR_WORDS]);
+            put_place(out, refusal);
+            refusal.number()
         }
     }
-}
-
-// Where the words of a mixed profile end early: 0 for nowhere, or the part and the index.
-fn put_mixed_place(out: &mut [u16], at: usize, place: MixedPlace) -> usize {
-    match place {
-        MixedPlace::Nowhere => put(out, at, 0),
-        MixedPlace::At(index, part) => {
-            let next = put_mixed_part(out, at, part);
-            put_number(out, next, index)
-        }
-    }
-}
-
-// The whole reading of a mixed profile; how many words it has.
-pub(crate) fn put_mixed_reading(out: &mut [u16], reading: MixedReading) -> usize {
-    let upper = reading.upper;
-    let lower = reading.lower;
-    let sent = reading.sent;
-    let counter = reading.counter;
-    let layer = reading.layer;
-    let sectors = reading.sectors;
-    let high = reading.high;
-    let low = reading.low;
-    let reflectors = reading.reflectors;
-    let place = reading.place;
-    let mut next = put_word(out, 0, upper);
-    next = put_word(out, next, lower);
-    next = put_front(out, next, sent, counter, layer);
-    next = put_rest(out, next, reading.count, sectors, high, low);
-    next = put_word(out, next, reflectors);
-    next = put_number(out, next, reading.start);
-    next = put_number(out, next, reading.width);
-    put_mixed_place(out, next, place)
 }

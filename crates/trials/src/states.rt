@@ -1,5 +1,5 @@
 // Plans and states as words, in and out.
-use crate::answers::put;
+use crate::answers::Answer;
 use crate::cases::rest;
 use flat::plan_of;
 use layout::{Kind, Mask};
@@ -11,6 +11,7 @@ use words::word_at;
 // How many words a state has.
 pub(crate) const STATE_WORDS: usize = 50;
 
+// Stay functions: the types are other crates', so that no `From` can be written for them here.
 // The mode of a word.
 fn mode_of(w: u16) -> Mode {
     match w {
@@ -83,29 +84,10 @@ pub(crate) fn state_of(words: &[u16]) -> State {
 }
 
 // A plan's 16 words.
-pub(crate) fn put_plan(out: &mut [u16], at: usize, plan: Plan) -> usize {
-    let mut next = at;
-    let mut k: usize = 0;
-    while k < 8 {
-        let sector = plan::entry_at(plan, k);
-        next = put(out, next, sector.function);
-        next = put(out, next, sector.stop.0);
-        k += 1;
+pub(crate) fn put_plan(out: &mut Answer, plan: Plan) {
+    for sector in plan.sectors {
+        out.put_all(&[sector.function, sector.stop.0]);
     }
-    next
-}
-
-// Three words.
-fn put_three(out: &mut [u16], at: usize, a: u16, b: u16, c: u16) -> usize {
-    let mut next = put(out, at, a);
-    next = put(out, next, b);
-    put(out, next, c)
-}
-
-// Four words.
-fn put_four(out: &mut [u16], at: usize, a: u16, b: u16, c: u16, d: u16) -> usize {
-    let next = put_three(out, at, a, b, c);
-    put(out, next, d)
 }
 
 // A mask's kind, high word and low word; a plain one has no high word.
@@ -123,73 +105,45 @@ fn mask_words(mask: Mask) -> MaskWords {
             high: 0,
             low: word,
         },
-        Mask::Mixed(high, low) => MaskWords {
-            kind: 1,
-            high: high,
-            low: low,
-        },
+        Mask::Mixed(high, low) => MaskWords { kind: 1, high, low },
     }
 }
 
 // A job's four words, 0 for what it does not have; of its mask the low word.
-fn put_job(out: &mut [u16], at: usize, job: Job) -> usize {
+fn put_job(out: &mut Answer, job: Job) {
     match job {
-        Job::Absent => put_four(out, at, 0, 0, 0, 0),
-        Job::Counted { left, mask, sent } => {
-            let words = mask_words(mask);
-            put_four(out, at, 1, left, words.low, sent)
-        }
-        Job::Endless { mask, sent } => {
-            let words = mask_words(mask);
-            put_four(out, at, 2, 0, words.low, sent)
-        }
+        Job::Absent => out.put_all(&[0, 0, 0, 0]),
+        Job::Counted { left, mask, sent } => out.put_all(&[1, left, mask_words(mask).low, sent]),
+        Job::Endless { mask, sent } => out.put_all(&[2, 0, mask_words(mask).low, sent]),
     }
 }
 
 // The kind of a job's mask, and its high word.
-fn put_mask_kind(out: &mut [u16], at: usize, job: Job) -> usize {
+fn put_mask_kind(out: &mut Answer, job: Job) {
     let words = mask_words(state::mask_of(job));
-    let next = put(out, at, words.kind);
-    put(out, next, words.high)
+    out.put_all(&[words.kind, words.high]);
 }
 
 // A pair's two words.
-fn put_reflector(out: &mut [u16], at: usize, reflector: Reflector) -> usize {
-    let threshold = reflector.threshold;
-    let radius = reflector.radius;
-    let next = put(out, at, threshold.0);
-    put(out, next, radius.0)
+fn put_reflector(out: &mut Answer, reflector: Reflector) {
+    out.put_all(&[reflector.threshold.0, reflector.radius.0]);
 }
 
 // The five words of the settings.
-fn put_settings(out: &mut [u16], at: usize, settings: Settings) -> usize {
-    let working = settings.working;
-    let stored = settings.stored;
-    let mut next = put(out, at, settings.rotation);
-    next = put_reflector(out, next, working);
-    put_reflector(out, next, stored)
+fn put_settings(out: &mut Answer, settings: Settings) {
+    out.put(settings.rotation);
+    put_reflector(out, settings.working);
+    put_reflector(out, settings.stored);
 }
 
 // A state's words.
-pub(crate) fn put_state(out: &mut [u16], at: usize, state: State) -> usize {
-    let working = state.working;
-    let stored = state.stored;
-    let mode = state.mode;
-    let job = state.job;
-    let settings = state.settings;
-    let shown = state::mode_number(mode);
-    let mut next = put_three(out, at, state.id, state.speed, state.step.0);
-    next = put_plan(out, next, working);
-    next = put_plan(out, next, stored);
-    next = put_four(
-        out,
-        next,
-        shown,
-        state.running,
-        state.port as u16,
-        state.counter,
-    );
-    next = put_job(out, next, job);
-    next = put_settings(out, next, settings);
-    put_mask_kind(out, next, job)
+pub(crate) fn put_state(out: &mut Answer, state: State) {
+    out.put_all(&[state.id, state.speed, state.step.0]);
+    put_plan(out, state.working);
+    put_plan(out, state.stored);
+    let shown = state::mode_number(state.mode);
+    out.put_all(&[shown, state.running, u16::from(state.port), state.counter]);
+    put_job(out, state.job);
+    put_settings(out, state.settings);
+    put_mask_kind(out, state.job);
 }

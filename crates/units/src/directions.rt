@@ -1,5 +1,5 @@
 // Directions, and the steps and shots between them.
-ghost use Rattle.std.specs.Prelude.{◌≡◌, ◌/◌, ◌%◌, ◌≤◌, ltb};
+ghost use Rattle.std.specs.Prelude.{◌≡◌, ◌/◌, ◌%◌, ◌≤◌};
 ghost use Rattle.units.specs.Directions.{circle, on_circle, step_after, steps_past, shots_to, revolution_shots, is_multiple, divides_circle};
 
 use crate::{Angle, CIRCLE};
@@ -67,10 +67,7 @@ pub fn revolution_shots(step: Angle) -> u16
 pub fn is_multiple(direction: Angle, step: Angle) -> bool
     ensures { result ≡ is_multiple step.0 direction.0 }
 {
-    if step.0 == 0 {
-        return direction.0 == 0;
-    }
-    direction.0 % step.0 == 0
+    direction.0.is_multiple_of(step.0)
 }
 
 // Whole steps go round (rule 2.1).
@@ -78,11 +75,4 @@ pub fn divides_circle(step: Angle) -> bool
     ensures { result ≡ divides_circle step.0 }
 {
     is_multiple(Angle(CIRCLE), step)
-}
-
-// The one direction has a smaller number than the other.
-pub fn is_below(direction: Angle, other: Angle) -> bool
-    ensures { result ≡ ltb direction.0 other.0 }
-{
-    direction.0 < other.0
 }

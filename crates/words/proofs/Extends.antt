@@ -6,8 +6,7 @@ use mathlib.Core.Bool.{Bool, true, false}
 use native.Mathlib.Omega.{arith}
 use lib.Dec.{T}
 use lib.ListN.{length, drop, replicate, length-append, length-replicate}
-use Rattle.words.specs.declared.Word.{Word}
-use Rattle.words.specs.declared.Word.TheVariants.{Given}
+use Rattle.std.specs.Prelude.{Option, Some}
 use Rattle.words.specs.Lists.{some}
 use Rattle.words.specs.Words.{given_if, Shaped}
 use Rattle.words.specs.Parse.{Got, short, got, map_got, word}
@@ -53,7 +52,7 @@ one_any false = tt
 
 one_extend : (on : Bool) (b : ℕ) (ws : List ℕ) → ExtendedOf (one on) ws (word on b ws)
 one_extend false b ws = tt
-one_extend true b [] = record { fields = Given 0; more = 0 ∷ []; fits = tt; some_more = tt; words = refl }
+one_extend true b [] = record { fields = Some 0; more = 0 ∷ []; fits = tt; some_more = tt; words = refl }
 one_extend true b (w ∷ ws) = tt
 
 pub one_extends : (on : Bool) → Extends (one on)
@@ -130,7 +129,7 @@ chain_extends k key keyF l h i keys =
           (k.parse b (drop b W)) (h.lawful.sound W b) (h.extend W b);
     }
 
-pub optional_extends : {B G : Type 0} (on : Bool) (l : Word → Format B G) → ((w : Word) → Extends (l w)) → Extends (optional on l)
+pub optional_extends : {B G : Type 0} (on : Bool) (l : Option ℕ → Format B G) → ((w : Option ℕ) → Extends (l w)) → Extends (optional on l)
 optional_extends on l h = chain_extends (one on) (λ w. w) (λ w. w) l (one_extends on) h (λ W a. refl)
 
 pub join_extends : {A F B G : Type 0} (k : Format A F) (l : Format B G) → Extends k → Extends l → Extends (join k l)

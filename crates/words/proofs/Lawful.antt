@@ -8,10 +8,8 @@ use lib.ListN.{length, drop, length-drop, length-append, take-append-drop}
 use lib.Seq.{length-take-le, drop-drop, take_at, drop_at}
 use lib.Dec.{leb}
 use borrow.Author.Tests.{leb-true, leb-false, le-leb}
-use Rattle.std.specs.Prelude.{if◌then◌else◌}
-use Rattle.words.specs.declared.Word.{Word}
-use Rattle.words.specs.declared.Word.TheVariants.{Absent, Given}
-use Rattle.words.specs.Words.{words_of, Shaped}
+use Rattle.std.specs.Prelude.{if◌then◌else◌, Option, Some, None, option_to_list}
+use Rattle.words.specs.Words.{Shaped}
 use Rattle.words.specs.Parse.{Got, short, got, Span, map_got, word, span}
 use Rattle.words.specs.Format.{Format, nothing, one, many, recast}
 
@@ -74,13 +72,13 @@ one_sound false W b ws h = record { rest = h; words = h; fits = tt }
 one_sound true W b [] h = tt
 one_sound true W b (w ∷ ws) h = record { rest = next W b w ws h; words = h; fits = tt }
 
-one_complete : (on : Bool) (W : List ℕ) (b : ℕ) (w : Word) (post : List ℕ) → Shaped on w → drop b W ≡ words_of w ++ post
+one_complete : (on : Bool) (W : List ℕ) (b : ℕ) (w : Option ℕ) (post : List ℕ) → Shaped on w → drop b W ≡ option_to_list w ++ post
     → Complete (one on) W b w post
-one_complete false W b Absent post o e = record { value = Absent; place = b; reads = ap (got Absent b) e; same = refl; behind = e }
-one_complete false W b (Given w) post o e = absurd o
-one_complete true W b Absent post o e = absurd o
-one_complete true W b (Given w) post o e =
-    record { value = Given w; place = b + 1; reads = ap (word true b) e; same = refl; behind = next W b w post e }
+one_complete false W b None post o e = record { value = None; place = b; reads = ap (got None b) e; same = refl; behind = e }
+one_complete false W b (Some w) post o e = absurd o
+one_complete true W b None post o e = absurd o
+one_complete true W b (Some w) post o e =
+    record { value = Some w; place = b + 1; reads = ap (word true b) e; same = refl; behind = next W b w post e }
 
 one_kept : (on : Bool) (b : ℕ) (ws : List ℕ) → KeptOf b ws (word on b ws)
 one_kept false b ws = refl

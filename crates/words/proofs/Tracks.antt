@@ -10,9 +10,7 @@ use lib.ListN.{length, drop, length-drop, drop_of_length-le}
 use lib.Seq.{drop-drop, drop-cons}
 use lib.Dec.{leb, ltb}
 use borrow.Author.Tests.{leb-true, leb-false, ltb-true, ltb-false, le-leb, lt-leb, lt-ltb, le-ltb}
-use Rattle.std.specs.Prelude.{if◌then◌else◌}
-use Rattle.words.specs.declared.Word.{Word}
-use Rattle.words.specs.declared.Word.TheVariants.{Absent}
+use Rattle.std.specs.Prelude.{if◌then◌else◌, Option, None}
 use Rattle.words.specs.Parse.{Got, short, got, map_got, word, span}
 use Rattle.words.specs.Format.{Format, nothing, one, many, chain, optional, join, recast}
 use Rattle.words.specs.Places.{take_at, skip_at}
@@ -44,7 +42,7 @@ nothing_tracks ws base i = record { reads = λ h. sym (in_out ws base tt i h); s
 one_reads : (on : Bool) (ws : List ℕ) (base i : ℕ) → i ≤ length ws → (t : Bool) → ltb i (length ws) ≡ t
     → word on (base + i) (drop i ws) ≡ out_at ws base (take_at on ws i).word (take_at on ws i).at
 unfolding take_at
-one_reads false ws base i h t e = sym (in_out ws base Absent i h)
+one_reads false ws base i h t e = sym (in_out ws base None i h)
 one_reads true ws base i h true e =
     let lt : i < length ws = ltb-true i (length ws) e in
     rw (e, drop-cons ws i 0 lt, le-leb (i + 1) (length ws) (omega arith)) (cc (add_assoc base i 1, add-one i))
@@ -88,8 +86,9 @@ module _ {K A F B G : Type 0} (k : Format A F) (key : A → K) (keyF : F → K) 
   chain_tracks = record { reads = λ h. rw (s.reads h) (chain_reads (leb j (length ws)) refl); sticks = λ h. t.sticks (s.sticks h) }
 
 -- the rest goes by the word and the place behind it, whatever they are
-pub optional_tracks : {B G : Type 0} (on : Bool) (l : Word → Format B G) (ws : List ℕ) (base i : ℕ) (c : Word → ℕ → B) (j : Word → ℕ → ℕ)
-    → ((w : Word) (i' : ℕ) → Tracks (l w) ws base i' (c w i') (j w i'))
+pub optional_tracks : {B G : Type 0} (on : Bool) (l : Option ℕ → Format B G) (ws : List ℕ) (base i : ℕ)
+    (c : Option ℕ → ℕ → B) (j : Option ℕ → ℕ → ℕ)
+    → ((w : Option ℕ) (i' : ℕ) → Tracks (l w) ws base i' (c w i') (j w i'))
     → Tracks (optional on l) ws base i ((take_at on ws i).word, c (take_at on ws i).word (take_at on ws i).at) (j (take_at on ws i).word (take_at on ws i).at)
 optional_tracks on l ws base i c j t = chain_tracks (one on) (λ w. w) (λ w. w) l ws base i _ _ _ _ (one_tracks on ws base i) (t _ _)
 

@@ -1,9 +1,9 @@
 -- Technical: no rule stands here. Formats: one description that says how fields are laid out and how they are read back.
 -- A is what a reader finds, with a run of words as its place and length; F is what is laid out, with the words themselves.
-use Rattle.std.specs.Prelude.{ℕ, zero, suc, ◌+◌, ◌≤◌, ◌≡◌, List, [], ◌∷◌, ◌++◌, map, Bool, length, take, drop}
-use Rattle.words.specs.declared.Word.{Word}
+use Rattle.std.specs.Prelude.{ℕ, zero, suc, ◌+◌, ◌≤◌, ◌≡◌, List, [], ◌∷◌, ◌++◌, map, Bool, length, take, drop, Option}
+use Rattle.std.specs.Prelude.{option_to_list}
 use Rattle.words.specs.Lists.{Each}
-use Rattle.words.specs.Words.{words_of, Shaped, laid_all}
+use Rattle.words.specs.Words.{Shaped, laid_all}
 use Rattle.words.specs.Parse.{got, Parser, Span, after, map_got, word, span, times_parse}
 
 pub record Format (A F : Type 0) : Type 1 where
@@ -32,11 +32,11 @@ nothing =
     }
 
 -- a word that is there where it is on
-abbrev pub one : Bool → Format Word Word
+abbrev pub one : Bool → Format (Option ℕ) (Option ℕ)
 one on =
     record {
       parse = word on;
-      put = words_of;
+      put = option_to_list;
       strip = λ _ w. w;
       ok = Shaped on;
       inside = λ _ _. Unit {0};
@@ -67,7 +67,7 @@ chain k key keyF l =
       stands = λ W b a. k.stands W b a.0 × (l (key a.0)).stands W (b + length (k.put (k.strip W a.0))) a.1;
     }
 
-abbrev pub optional : {B G : Type 0} → Bool → (Word → Format B G) → Format (Word × B) (Word × G)
+abbrev pub optional : {B G : Type 0} → Bool → (Option ℕ → Format B G) → Format (Option ℕ × B) (Option ℕ × G)
 optional on l = chain (one on) (λ w. w) (λ w. w) l
 
 abbrev pub join : {A F B G : Type 0} → Format A F → Format B G → Format (A × B) (F × G)

@@ -1,8 +1,6 @@
 -- Technical: no rule stands here. Parsers over lists of words. A parser is handed the place it stands at and the words from there on, and
 -- finds that the words end early, or a value with the place and the words behind it.
-use Rattle.std.specs.Prelude.{ℕ, zero, suc, ◌+◌, List, [], ◌∷◌, Bool, true, false, length, drop, leb, if◌then◌else◌}
-use Rattle.words.specs.declared.Word.{Word}
-use Rattle.words.specs.declared.Word.TheVariants.{Absent, Given}
+use Rattle.std.specs.Prelude.{ℕ, zero, suc, ◌+◌, List, [], ◌∷◌, Bool, true, false, length, drop, leb, if◌then◌else◌, Option, Some, None}
 
 pub data Got (A : Type 0) : Type 0 where
   short : Got A
@@ -25,10 +23,10 @@ map_got f short = short
 map_got f (got a b ws) = got (f a) b ws
 
 -- one word where it is on
-abbrev pub word : Bool → Parser Word
-word false b ws = got Absent b ws
+abbrev pub word : Bool → Parser (Option ℕ)
+word false b ws = got None b ws
 word true b [] = short
-word true b (w ∷ ws) = got (Given w) (b + 1) ws
+word true b (w ∷ ws) = got (Some w) (b + 1) ws
 
 -- n words
 abbrev pub span : ℕ → Parser Span

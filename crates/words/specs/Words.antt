@@ -1,28 +1,21 @@
 -- Technical: no rule stands here. A word that is given, or absent.
-use Rattle.std.specs.Prelude.{Bool, true, false, List, [], ◌∷◌, ◌++◌, ℕ, get_or}
-use Rattle.words.specs.declared.Word.{Word}
-use Rattle.words.specs.declared.Word.TheVariants.{Absent, Given}
+use Rattle.std.specs.Prelude.{Bool, true, false, List, [], ◌∷◌, ◌++◌, ℕ, Option, Some, None, unwrap_or}
 
 -- given where it is selected
-abbrev pub given_if : Bool → ℕ → Word
-given_if true w = Given w
-given_if false w = Absent
-
--- the word itself, as a list, case by case
-abbrev pub words_of : Word → List ℕ
-words_of Absent = []
-words_of (Given w) = w ∷ []
+abbrev pub given_if : Bool → ℕ → Option ℕ
+given_if true w = Some w
+given_if false w = None
 
 -- its number, 0 where it is absent
-abbrev pub number_of : Word → ℕ
-number_of w = get_or (words_of w) 0 0
+abbrev pub number_of : Option ℕ → ℕ
+number_of w = unwrap_or w 0
 
 -- given exactly where it is selected
-abbrev pub Shaped : Bool → Word → Type 0
-Shaped true Absent = ⊥
-Shaped true (Given w) = Unit {0}
-Shaped false Absent = Unit {0}
-Shaped false (Given w) = ⊥
+abbrev pub Shaped : Bool → Option ℕ → Type 0
+Shaped true None = ⊥
+Shaped true (Some w) = Unit {0}
+Shaped false None = Unit {0}
+Shaped false (Some w) = ⊥
 
 -- the words of each, one after another
 abbrev pub laid_all : {F : Type 0} → (F → List ℕ) → List F → List ℕ

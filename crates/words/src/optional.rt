@@ -3,32 +3,31 @@ ghost use Rattle.std.specs.Prelude.{◌≡◌};
 ghost use Rattle.words.specs.Bits.{bit};
 ghost use Rattle.words.specs.Places.{take_at, skip_at};
 
+use crate::Took;
 use crate::bits::has_bit;
-use crate::{Took, Word};
 
 // The word at a place, where the mask has its bit.
+#[tactic(auto, using(crate::proofs::Takes::take_there, crate::proofs::Takes::take_ended, crate::proofs::Takes::take_off))]
 pub fn take_word(words: &[u16], at: usize, mask: u32, k: u32) -> Took
     ensures { result ≡ take_at (bit mask k) words.now at }
 {
-    if has_bit(mask, k) {
-        if at < words.len() {
-            return Took {
-                word: Word::Given(words[at]),
-                at: at + 1,
-            };
-        }
-        return Took {
-            word: Word::Absent,
-            at: words.len() + 1,
-        };
+    if !has_bit(mask, k) {
+        return Took { word: None, at };
     }
-    Took {
-        word: Word::Absent,
-        at,
+    match words.get(at) {
+        Some(&word) => Took {
+            word: Some(word),
+            at: at + 1,
+        },
+        None => Took {
+            word: None,
+            at: words.len() + 1,
+        },
     }
 }
 
 // The place behind n words.
+#[tactic(auto, using(crate::proofs::Tests::picks), unfolding(crate::specs::Places::skip_at))]
 pub fn skip(words: &[u16], at: usize, n: usize) -> usize
     ensures { result ≡ skip_at n words.now at }
 {

@@ -12,8 +12,5 @@ pub fn product(a: u16, b: u16) -> u32
 pub fn word_at(words: &[u16], place: usize) -> u16
     ensures { WordAtSays words.now place result }
 {
-    if place < words.len() {
-        return words[place];
-    }
-    0
+    words.get(place).copied().unwrap_or(0)
 }

@@ -1,16 +1,13 @@
 use borrow.Author.Rules.{rules}
-use Rattle.words.proofs.Puts.{turns_none, turn_put, turns_all}
-use Rattle.dialogue.proofs.Parts.{hex_fits}
+use Rattle.words.proofs.Puts.{turns_none}
+use Rattle.dialogue.proofs.Parts.{hex_fits, hex_put}
 use Rattle.dialogue.proofs.lines.put_words.Goals as goal
 
-pub loop-k-init : goal.loop-k-init
-loop-k-init c = search (turns_none, rules)
+pub loop-w-init : goal.loop-w-init
+loop-w-init c = search (turns_none, rules)
 
-pub put_hex-to-requires : goal.put_hex-to-requires
-put_hex-to-requires c = search hex_fits
+pub put-to-requires : goal.put-to-requires
+put-to-requires c = search (hex_fits, rules)
 
-pub loop-k-preserved : goal.loop-k-preserved
-loop-k-preserved c = search (turn_put, rules)
-
-pub returns : goal.returns
-returns c = search turns_all
+pub loop-w-preserved : goal.loop-w-preserved
+loop-w-preserved c = search (hex_put, rules)

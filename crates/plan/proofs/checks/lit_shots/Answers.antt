@@ -1,17 +1,25 @@
-use native.Mathlib.Omega.{arith}
-use borrow.Author.Rules.{rules}
+use Rattle.std.proofs.Common.{◌∙◌, rules, tests}
+use Rattle.std.proofs.lemmas.Iterator.{YieldsList-from_map}
+use Rattle.std.proofs.lemmas.Iterator.Consumers.{YieldsList-at, YieldsList-from_first, sum_by_from_yields_List, fits_by_from_yields_list}
 use Rattle.words.proofs.Arrays.{long}
-use Rattle.plan.proofs.ArcSums.{count_fits, lit_start, lit_ends, lit_more, lit_bound, lit_fits}
+use Rattle.plan.specs.Sectors.{active_of}
+use Rattle.plan.specs.Shots.{arcs}
+use Rattle.plan.specs.Checks.{lit_shots}
+use Rattle.plan.specs.ArcsLeft.{arcs_left}
+use Rattle.plan.proofs.ArcSums.{lit_of, lit_sum, lit_fits}
 use Rattle.plan.proofs.checks.lit_shots.Goals as goal
 
-pub loop-k-init : goal.loop-k-init
-loop-k-init c = (search (count_fits, long, rules), omega arith, search lit_start)
-
-pub overflow_add-sum : goal.overflow_add-sum
-overflow_add-sum c = record { fits = search lit_fits }
-
-pub loop-k-preserved : goal.loop-k-preserved
-loop-k-preserved c = (search rules, search lit_bound, search lit_more)
+pub sum-requires-clause-fits : goal.sum-requires-clause-fits
+sum-requires-clause-fits c =
+    fits_by_from_yields_list lit_of (arcs c.args.step.0 (active_of c.args.plan)) _ _
+    (YieldsList-from_map _ lit_of (YieldsList-at c.map.ensures.source (YieldsList-from_first (λ a. a) arcs_left _ c.arcs_of.ensures))
+    c.map.ensures.closure (λ x r q k. search (rules, tests)))
+    (search (lit_fits, long, rules))
 
 pub returns : goal.returns
-returns c = search lit_ends
+unfolding lit_shots
+returns c =
+    sum_by_from_yields_List lit_of (arcs c.args.step.0 (active_of c.args.plan)) _ _ c.sum.ensures.ran
+    (YieldsList-from_map _ lit_of (YieldsList-at c.map.ensures.source (YieldsList-from_first (λ a. a) arcs_left _ c.arcs_of.ensures))
+    c.map.ensures.closure (λ x r q k. search (rules, tests)))
+    ∙ lit_sum (arcs c.args.step.0 (active_of c.args.plan))

@@ -1,22 +1,12 @@
-use mathlib.Core.Path.{refl}
-use borrow.Author.Rules.{rules}
-use Rattle.words.proofs.Arrays.{long}
-use Rattle.plan.proofs.Walk.{entries_end, entry_fails, entry_passes}
-use Rattle.plan.specs.Sectors.{plan_in_range}
+use Rattle.std.proofs.Common.{rules, tests}
+use Rattle.std.proofs.lemmas.Iterator.{YieldsList-from_slice}
+use Rattle.std.proofs.lemmas.Iterator.Search.{all_from_yields_List}
+use Rattle.plan.specs.Sectors.{entry_in_range, plan_in_range}
+use Rattle.plan.proofs.Actives.{every_of}
 use Rattle.plan.proofs.ranges.plan_in_range.Goals as goal
-
-pub loop-i-init : goal.loop-i-init
-unfolding plan_in_range
-loop-i-init c = (search (long, rules), refl)
-
-pub returns-then-not-entry_in_range : goal.returns-then-not-entry_in_range
-unfolding plan_in_range
-returns-then-not-entry_in_range c = search entry_fails
-
-pub loop-i-preserved : goal.loop-i-preserved
-unfolding plan_in_range
-loop-i-preserved c = (search rules, search entry_passes)
 
 pub returns : goal.returns
 unfolding plan_in_range
-returns c = search entries_end
+returns c =
+    every_of entry_in_range c.args.plan.sectors _
+    (all_from_yields_List entry_in_range _ _ c.all.result c.all.ensures.ran (YieldsList-from_slice _ cc) (λ x b q k. search (rules, tests)))

@@ -1,18 +1,29 @@
-use native.Mathlib.Omega.{arith}
-use borrow.Author.Rules.{rules}
+use mathlib.Core.Path.{◌∙◌}
+use Rattle.std.proofs.Common.{rules}
+use Rattle.std.proofs.lemmas.Iterator.{YieldsList-from_map}
+use Rattle.std.proofs.lemmas.Iterator.Consumers.{YieldsList-at, YieldsList-from_first, sum_by_from_yields_List, fits_by_from_yields_list}
 use Rattle.words.proofs.Arrays.{long}
-use Rattle.plan.proofs.ArcSums.{count_fits}
-use Rattle.profile.proofs.PointSums.{points_end, points_more, points_bound, points_fit}
+use Prim.Native.Nat.{ℕ}
+use Rattle.plan.specs.declared.Arc.{Arc}
+use Rattle.plan.specs.Sectors.{active_of}
+use Rattle.plan.specs.Shots.{arcs}
+use Rattle.plan.specs.ArcsLeft.{arcs_left}
+use Rattle.profile.proofs.PointSums.{points_sum, points_fit}
 use Rattle.profile.proofs.profiles.plan_points.Goals as goal
 
-pub loop-k-init : goal.loop-k-init
-loop-k-init c = (search (count_fits, long, rules), omega arith, omega arith)
+abbrev points : Arc → ℕ
+points a = a.points
 
-pub overflow_add-sum : goal.overflow_add-sum
-overflow_add-sum c = record { fits = search points_fit }
-
-pub loop-k-preserved : goal.loop-k-preserved
-loop-k-preserved c = (search rules, search points_bound, search points_more)
+pub sum-requires-clause-fits : goal.sum-requires-clause-fits
+sum-requires-clause-fits c =
+    fits_by_from_yields_list points (arcs c.args.step.0 (active_of c.args.plan)) _ _
+    (YieldsList-from_map _ points (YieldsList-at c.map.ensures.source (YieldsList-from_first (λ a. a) arcs_left _ c.arcs_of.ensures))
+    c.map.ensures.closure (λ x r q k. search rules))
+    (search (points_fit, long, rules))
 
 pub returns : goal.returns
-returns c = search points_end
+returns c =
+    sum_by_from_yields_List points (arcs c.args.step.0 (active_of c.args.plan)) _ _ c.sum.ensures.ran
+    (YieldsList-from_map _ points (YieldsList-at c.map.ensures.source (YieldsList-from_first (λ a. a) arcs_left _ c.arcs_of.ensures))
+    c.map.ensures.closure (λ x r q k. search rules))
+    ∙ points_sum (arcs c.args.step.0 (active_of c.args.plan))

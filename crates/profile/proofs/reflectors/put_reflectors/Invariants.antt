@@ -1,17 +1,15 @@
 use mathlib.Core.Path.{◌≡◌}
-use Prim.Native.Nat.{◌-◌, ◌≤◌}
-use lib.ListN.{length}
+use Prim.Native.Nat.{◌*◌, ◌≤◌}
+use lib.ListN.{length, drop}
 use Rattle.words.specs.Buffers.{in_turn, Put}
+use Rattle.layout.specs.MixedMasks.{reflector_length}
 use Rattle.profile.specs.Mixed.{reflectors_given}
 use Rattle.profile.proofs.Reflecting.{one_of}
 use Rattle.profile.proofs.reflectors.put_reflectors.Given as goal
 
-abbrev pub invariant-loop-r : goal.invariant-loop-r
-invariant-loop-r l =
-    Put (in_turn (one_of l.mask l.list) l.r) l.initial.out l.from l.out l.at
-    × (l.r ≤ l.count)
-    × (length l.out ≡ length l.initial.out)
-    × (l.count ≡ reflectors_given l.list)
-
-abbrev pub decreases-loop-r : goal.decreases-loop-r
-decreases-loop-r l = l.count - l.r
+abbrev pub invariant-loop-reflector : goal.invariant-loop-reflector
+invariant-loop-reflector l =
+    Put (in_turn (one_of l.mask l.list) (length l.yielded)) l.fn.out l.from l.out l.at
+    × (drop (length l.yielded * reflector_length) l.list ≡ l.reflector-iterator.rest.now)
+    × (l.reflector-iterator.size ≡ reflector_length)
+    × (length l.yielded ≤ reflectors_given l.list)

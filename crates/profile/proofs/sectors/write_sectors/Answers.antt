@@ -1,47 +1,54 @@
+-- With each step the iterator gives the arc at its count, which is the sector's number.
+use mathlib.Core.Path.{refl, ◌∙◌}
+use mathlib.Core.Logic.{inl}
 use native.Mathlib.Omega.{arith}
 use borrow.Author.Rules.{rules}
 use Rattle.words.proofs.Puts.{turns_none}
-use Rattle.plan.proofs.ArcSums.{count_fits}
-use Rattle.profile.proofs.SectorTurns.{behind_sectors, sector_asked, sector_fits, sector_more, sectors_done}
+use Rattle.profile.proofs.PointSums.{count_fits}
+use Rattle.profile.proofs.SectorTurns.{few_arcs, arc_found, sector_asked, sector_fits, sector_more, sectors_done}
 use Rattle.profile.proofs.sectors.write_sectors.Goals as goal
 
 pub loop-k-init : goal.loop-k-init
-loop-k-init c = (turns_none _ _ _, omega arith, search rules, search (count_fits, rules))
+loop-k-init c =
+    rw (c.into_iter-k-iterator.ensures.into_iter_gives, c.enumerate-k-items.ensures.count) (turns_none _ _ _, search rules, omega arith)
 
-pub offset_bounds-out-at : goal.offset_bounds-out-at
-offset_bounds-out-at c =
-    let h = behind_sectors c.requires c.active_count-count.ensures c.loop-k.invariant.0 c.loop-k-test.true in
-    omega arith
+pub loop-k-init-derived : goal.loop-k-init-derived
+loop-k-init-derived c =
+    let few = few_arcs c.args.plan c.args.step.0 c.requires.eight in
+    let e = c.enumerate-k-items.ensures in
+    ((tt, tt, inl (rw (c.into_iter-k-iterator.ensures.into_iter_gives, e.count, e.source, c.arcs_of.ensures) (omega (arith, few)))), tt)
 
-pub slice_bounds-write_sector-count : goal.slice_bounds-write_sector-count
-slice_bounds-write_sector-count c =
-    let h = behind_sectors c.requires c.active_count-count.ensures c.loop-k.invariant.0 c.loop-k-test.true in
-    omega arith
+pub overflow_cast-k : goal.overflow_cast-k
+overflow_cast-k c =
+    let s = c.in-Some.ensures.steps in
+    let a = arc_found c.args.plan c.args.step.0 c.loop-k.k-iterator.count (c.loop-k.invariant.1 ∙ s.0) in
+    let many = count_fits _ _ c.requires.eight refl in
+    record { fits = omega (arith, s.1, a.active) }
 
-pub slice_bounds-write_sector-start : goal.slice_bounds-write_sector-start
-slice_bounds-write_sector-start c =
-    let h = behind_sectors c.requires c.active_count-count.ensures c.loop-k.invariant.0 c.loop-k-test.true in
-    omega arith
-
-pub write_sector-n-requires : goal.write_sector-n-requires
-write_sector-n-requires c =
-    sector_asked c.requires c.active_count-count.ensures c.loop-k.invariant.0 c.loop-k-test.true c.arc_at-arc.ensures
+pub write_sector-at-requires : goal.write_sector-at-requires
+write_sector-at-requires c =
+    let s = c.in-Some.ensures.steps in
+    let a = arc_found c.args.plan c.args.step.0 c.loop-k.k-iterator.count (c.loop-k.invariant.1 ∙ s.0) in
+    rw s.1 (sector_asked c.requires refl c.loop-k.invariant.0 a.active a.here)
 
 pub overflow_add-at : goal.overflow_add-at
 overflow_add-at c =
-    let h =
-    sector_fits c.requires c.active_count-count.ensures c.loop-k.invariant.0 c.loop-k-test.true c.arc_at-arc.ensures
-    c.write_sector-n.ensures in
-    omega arith
+    let s = c.in-Some.ensures.steps in
+    let a = arc_found c.args.plan c.args.step.0 c.loop-k.k-iterator.count (c.loop-k.invariant.1 ∙ s.0) in
+    let h = sector_fits c.requires refl c.loop-k.invariant.0 a.active a.here (rw s.1 at c.write_sector-at.ensures) in
+    record { fits = omega arith }
 
 pub loop-k-preserved : goal.loop-k-preserved
-loop-k-preserved c = (
-  sector_more c.requires c.active_count-count.ensures c.loop-k.invariant.0 c.loop-k-test.true c.arc_at-arc.ensures
-      c.write_sector-n.ensures,
-  search rules,
-  search rules,
-  search rules,
-)
+loop-k-preserved c =
+    let s = c.in-Some.ensures.steps in
+    let a = arc_found c.args.plan c.args.step.0 c.loop-k.k-iterator.count (c.loop-k.invariant.1 ∙ s.0) in
+    rw s.2 (
+      sector_more c.requires refl c.loop-k.invariant.0 a.active a.here (rw s.1 at c.write_sector-at.ensures),
+      a.behind,
+      omega (arith, a.active),
+    )
 
 pub returns : goal.returns
-returns c = sectors_done c.requires c.active_count-count.ensures c.loop-k.invariant.0 c.loop-k.invariant.1 c.loop-k-test.false
+returns c =
+    let s = c.in-None.ensures.steps in
+    sectors_done c.requires refl c.loop-k.invariant.0 c.loop-k.invariant.2 (c.loop-k.invariant.1 ∙ s.0.0)

@@ -1,12 +1,9 @@
--- `stretch_mixed_refusal`: each way out by its law.
-use Rattle.reader.proofs.MixedPoints.{mixed_refused, mixed_has_stretch, mixed_past_sectors}
+-- `stretch_mixed_refusal`: the reader's refusal, then the place.
+use Rattle.reader.proofs.MixedPoints.{mixed_stretch_refused, mixed_stretch_asked}
 use Rattle.reader.proofs.mixed_stretches.stretch_mixed_refusal.Goals as goal
 
-pub returns-then-reading-ne0 : goal.returns-then-reading-ne0
-returns-then-reading-ne0 c = search mixed_refused
-
-pub returns-then-place-reading : goal.returns-then-place-reading
-returns-then-place-reading c = search mixed_has_stretch
+pub returns-in_err-reading : goal.returns-in_err-reading
+returns-in_err-reading c = search (mixed_stretch_refused, c.in_err-reading.was, c.from_residual.ensures.1)
 
 pub returns : goal.returns
-returns c = search mixed_past_sectors
+returns c = search (mixed_stretch_asked, c.in_ok-reading.was)

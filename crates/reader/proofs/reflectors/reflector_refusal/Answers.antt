@@ -1,12 +1,9 @@
--- `reflector_refusal`: each way out by its law.
-use Rattle.reader.proofs.ReflectorPlaces.{reflector_refused, has_reflector, past_reflectors}
+-- `reflector_refusal`: the reader's refusal, then the place.
+use Rattle.reader.proofs.ReflectorPlaces.{reflector_refused, reflector_asked}
 use Rattle.reader.proofs.reflectors.reflector_refusal.Goals as goal
 
-pub returns-then-reading-ne0 : goal.returns-then-reading-ne0
-returns-then-reading-ne0 c = search reflector_refused
-
-pub returns-then-place-number_of : goal.returns-then-place-number_of
-returns-then-place-number_of c = search has_reflector
+pub returns-in_err-reading : goal.returns-in_err-reading
+returns-in_err-reading c = search (reflector_refused, c.in_err-reading.was, c.from_residual.ensures.1)
 
 pub returns : goal.returns
-returns c = search past_reflectors
+returns c = search (reflector_asked, c.in_ok-reading.was)

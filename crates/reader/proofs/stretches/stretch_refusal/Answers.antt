@@ -1,12 +1,9 @@
--- `stretch_refusal`: each way out by its law.
-use Rattle.reader.proofs.PointPlaces.{refused_reading, has_stretch, past_sectors}
+-- `stretch_refusal`: the reader's refusal, then the place.
+use Rattle.reader.proofs.PointPlaces.{stretch_refused, stretch_asked}
 use Rattle.reader.proofs.stretches.stretch_refusal.Goals as goal
 
-pub returns-then-reading-ne0 : goal.returns-then-reading-ne0
-returns-then-reading-ne0 c = search refused_reading
-
-pub returns-then-place-reading : goal.returns-then-place-reading
-returns-then-place-reading c = search has_stretch
+pub returns-in_err-reading : goal.returns-in_err-reading
+returns-in_err-reading c = search (stretch_refused, c.in_err-reading.was, c.from_residual.ensures.1)
 
 pub returns : goal.returns
-returns c = search past_sectors
+returns c = search (stretch_asked, c.in_ok-reading.was)

@@ -1,7 +1,0 @@
-use borrow.Author.Rules.{rules}
-use Rattle.words.proofs.Tests.{both_are}
-use Rattle.state.proofs.nav300.reflector_ok.Statement.{statement}
-use Rattle.state.proofs.nav300.reflector_ok.Tie as tie
-
-pub reflector_ok_spec : {M : Type 1} → statement M
-reflector_ok_spec = tie.close (tie.spec (λ c κs. search rules) (λ c κs. search rules) (λ c. search both_are))
