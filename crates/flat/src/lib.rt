@@ -57,7 +57,7 @@ fn measuring(plan: &[u16], step: Angle, running: u16, mask: Mask) -> State
 }
 
 // The profile of that sensor's revolution by a mask of either kind, into the buffer that is lent; how many words it has, 0 where the call is
-// refused. One call of `revolution` serves both kinds, so that the compiler puts it here and hands no state over in memory; and the mask comes
+// refused, as C gets it. One call of `revolution` serves both kinds, so that the compiler puts it here and hands no state over in memory; and the mask comes
 // as numbers, which go in registers.
 fn one_profile(
     plan: &[u16],

@@ -56,7 +56,7 @@ pub fn arcs_of(plan: &Plan, step: Angle) -> ArcIter<'_>
     }
 }
 
-// The arc of the sector at a place; zeros where no active sector stands there (rule 3.5).
+// The arc of the sector at a place; zeros where no active sector stands there (rule 3.5), as `arc_at` of the specs has it.
 #[tactic(auto, unfolding(crate::specs::Shots::arc_at))]
 pub fn arc_at(plan: Plan, step: Angle, place: usize) -> Arc
     ensures { result ≡ arc_at plan step.0 place }

@@ -31,7 +31,7 @@ pub struct Plan {
 }
 
 // What one active sector is in a revolution: its function, first and last direction, the number of its first shot, how many
-// shots it has and how many of them give points.
+// shots it has and how many of them give points. Its function is the sector's, any number.
 #[derive(Clone, Copy, Default)]
 pub struct Arc {
     pub function: u16,

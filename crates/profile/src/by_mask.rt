@@ -13,7 +13,7 @@ use crate::scans::Scan;
 use layout::{MIXED_CODE, Mask, ONE_LAYER, PROFILE_CODE, REFLECTOR};
 use state::State;
 
-// The length of the profile (rules 5.8 and 5.20).
+// The length of the profile (rules 5.8 and 5.20). That the list is short stays a clause, here and below: it is refusal 27 that says so, behind others.
 pub(crate) fn length_by(state: State, mask: Mask, reflectors: &[u16]) -> usize
     requires { length reflectors.now ≤ 704 }
     ensures { result ≡ length_by state reflectors.now mask }

@@ -17,7 +17,7 @@ fn risen_by_one(n: u16) -> u16
     n.wrapping_add(1)
 }
 
-// The job after a revolution (rule 5.3).
+// The job after a revolution (rule 5.3). What is asked of it, here and below, stays a clause: no struct has a job alone.
 fn job_after(job: Job) -> Job
     requires { JobAsked job }
     ensures { result ≡ job_after job }
@@ -36,7 +36,7 @@ fn job_after(job: Job) -> Job
     }
 }
 
-// The number sent with this revolution's profile counted; none is sent without a job (rule 5.3).
+// The number sent with this revolution's profile counted; none is sent without a job (rule 5.3). A match over the three cases of a job.
 fn sent_after(job: Job) -> u16
     requires { JobAsked job }
     ensures { result ≡ sent_after job }
@@ -101,6 +101,7 @@ pub fn revolution(state: State, scan: Scan, out: &mut [u16]) -> Result<Reply, Re
     ensures { RevolutionSays state (scan_of scan.entry) out.old out.new result }
 {
     admit(state, scan)?;
+    // not a match on the job, which was tried: its goal was one of raw rows
     let job = state.job;
     if !state::is_job(job) {
         return Ok(Reply {

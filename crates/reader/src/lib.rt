@@ -19,7 +19,7 @@ pub use reflectors::{all_reflectors, reflector, reflector_refusal};
 pub use stretches::{stretch, stretch_refusal};
 
 // The words of a sector, absent where the mask has no bit for them, and the place of its points in the words given (rule 5.11).
-#[derive(Clone, Copy)]
+#[derive(Clone, Copy, Default)]
 pub struct SectorReading {
     pub number: Option<u16>,
     pub step: Option<u16>,

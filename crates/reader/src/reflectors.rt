@@ -13,7 +13,7 @@ pub fn reflector_refusal(words: &[u16], place: usize) -> Result<(), ReadRefusal<
     check_place(place, reading.reflectors.unwrap_or(0) as usize)
 }
 
-// The words of the reflector at a place, a part of the words given; empty where the call above is refused (rule 5.24).
+// The words of the reflector at a place, a part of the words given; empty where the call above is refused (rule 5.24). No Result, as `stretch`.
 pub fn reflector(words: &[u16], place: usize) -> &[u16]
     ensures { ReflectorSays words.entry place result }
 {

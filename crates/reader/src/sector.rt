@@ -11,17 +11,7 @@ use words::{product, skip, take_word};
 pub(crate) fn blank() -> SectorReading
     ensures { result ≡ blank_sector }
 {
-    SectorReading {
-        number: None,
-        step: None,
-        points: None,
-        tstart: None,
-        startdir: None,
-        start: 0,
-        len: 0,
-        tend: None,
-        enddir: None,
-    }
+    SectorReading::default()
 }
 
 // The sector whose first word is the first of rest; base is where that word stands in the words given (rule 5.10).

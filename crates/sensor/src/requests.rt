@@ -18,6 +18,7 @@ fn admit_service(code: u16, count: usize, mode: Mode) -> Result<(), Refusal>
 {
     let row = row_of(code);
     let Row(_, want, .., miscount) = row;
+    // as `is_listed` of the specs has it: the row of a code that is not in the table asks for no word
     if want == 0 {
         return Err(Refusal::UnknownCode);
     }

@@ -25,7 +25,7 @@ pub(crate) struct Row(
     pub Miscount,
 );
 
-// The row of a code.
+// The row of a code. Stays a match: it is the table.
 #[tactic(auto, unfolding(crate::specs::Table::service_of))]
 pub(crate) fn row_of(code: u16) -> Row
     ensures { Lists result.0 result.1 result.2 result.3 result.4 result.5 code }

@@ -55,7 +55,7 @@ fn function_set(function: u16) -> u16
     function
 }
 
-// Whether the stop is a multiple of the step is not tested here: TRANS_MEASURE does (rule 4.8).
+// Whether the stop is a multiple of the step is not tested here: TRANS_MEASURE does (rule 4.8). The function is a word as it came, and any is taken.
 pub fn set_function(
     state: State,
     code: u16,

@@ -61,7 +61,8 @@ fn read_more(mut input: Stdin, bytes: &mut [u8], have: usize) -> Option<usize>
     }
 }
 
-// Where the talk stands, and how many bytes are not taken yet.
+// Where the talk stands, and how many bytes are not taken yet. These stand at the front of the one buffer, which goes beside their number: a struct of
+// both would be made anew at each turn.
 #[derive(Clone, Copy)]
 struct Turn {
     talk: Talk,
@@ -84,6 +85,7 @@ fn take_turn(
     ensures err { OnErr result (bytes.new ≡ bytes.old) }
 {
     let block = answer_block(talk, &bytes[..have], text);
+    // no byte of text is no line; the block is handed on either way
     if block.filled == 0 {
         return Ok(read_more(input, bytes, have).map(|now| Turn { talk, have: now }));
     }

@@ -12,7 +12,7 @@ pub fn is_job(job: Job) -> bool
     !matches!(job, Job::Absent)
 }
 
-// Its mask; where there is no job, a plain one of no bit.
+// Its mask; where there is no job, a plain one of no bit, as `mask_of` of the specs has it.
 pub fn mask_of(job: Job) -> Mask
     ensures { result ≡ mask_of job }
 {

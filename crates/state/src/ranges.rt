@@ -39,7 +39,7 @@ pub fn is_measure(mode: Mode) -> bool
     matches!(mode, Mode::Measure)
 }
 
-// A job exists only in MEASURE, with a mask, a number left and a number sent that it may have (rules 2.7 and 2.11).
+// A job exists only in MEASURE, with a mask, a number left and a number sent that it may have (rules 2.7 and 2.11). A match over its three cases.
 fn job_ok(mode: Mode, job: Job) -> bool
     ensures { result ≡ job_ok mode job }
 {

@@ -13,6 +13,8 @@ use words::word_at;
 // Where the words behind a state begin, of a case that has one behind its kind.
 const BEHIND_STATE: usize = STATE_WORDS + 1;
 
+// Each call answers with its number for no, 0 for none, which a line prints: the calls have errors of four types.
+
 // What an answer at a state and the buffer after it say: the count, the next state, and the whole buffer. A refusal counts no word and
 // leaves the state.
 fn say_answer(

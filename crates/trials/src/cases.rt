@@ -10,7 +10,7 @@ pub(crate) fn length_of(w: u16) -> usize
     usize::from(w % 8192)
 }
 
-// The words of the bytes, over the front of the buffer.
+// The words of the bytes, over the front of the buffer. `dialogue` has the same for a record, and does not hand it out.
 pub(crate) fn take_words(bytes: &[u8], words: &mut [u16]) {
     for (word, pair) in words.iter_mut().zip(bytes.as_chunks::<2>().0) {
         *word = u16::from_be_bytes(*pair);
