@@ -5,13 +5,15 @@ use mathlib.Core.List.{List}
 use lib.Dec.{eqb}
 use lib.ListN.{length, get_or}
 use borrow.Author.Tests.{ne_eqb}
-use Rattle.std.specs.Prelude.{if◌then◌else◌, Result, Ok, Err}
+use Rattle.std.specs.Prelude.{if◌then◌else◌, Option, Result, Ok, Err}
 use Rattle.words.specs.Words.{number_of}
 use Rattle.layout.specs.declared.Kind.{Kind}
 use Rattle.layout.specs.MixedMasks.{reflector_width}
 use Rattle.reader.specs.declared.Part.{Part}
 use Rattle.reader.specs.declared.MixedPart.{MixedPart}
 use Rattle.reader.specs.declared.MixedPart.TheVariants.{Contour, Count, Reflector}
+use Rattle.reader.specs.declared.SectorReading.{SectorReading}
+use Rattle.reader.specs.declared.ContourReading.{ContourReading}
 use Rattle.reader.specs.declared.Reading.{Reading}
 use Rattle.reader.specs.declared.MixedReading.{MixedReading}
 use Rattle.reader.specs.declared.ReadRefusal.{ReadRefusal}
@@ -75,21 +77,21 @@ module _ {P : Type 0} where
   one_why a b h k =
       sym (why_back a) ∙ (λ i. answer_of ((h.number_is ∙ sym k.number_is) i) ((h.place_is ∙ sym k.place_is) i) tt) ∙ why_back b
 
+-- what has an inverse on its left takes no two to one
+one_by : {A B : Type 0} (f : A → B) (g : B → A) → ((a : A) → g (f a) ≡ a) → (a b : A) → f a ≡ f b → a ≡ b
+one_by f g back a b h = sym (back a) ∙ ap g h ∙ back b
+
+-- the contour of either reading, from what it says
+abbrev contour_of : (sent counter layer : Option ℕ) (count : ℕ) (sectors : List SectorReading) (high low : Option ℕ) → ContourReading
+contour_of sent counter layer count sectors high low =
+    record { sent = sent; counter = counter; layer = layer; count = count; sectors = sectors; high = high; low = low }
+
 -- a reading, from what it says
 abbrev reading_of : Said → Reading
 reading_of s =
     record {
       mask = number_of s.mask;
-      contour =
-          record {
-            sent = s.sent;
-            counter = s.counter;
-            layer = s.layer;
-            count = s.count;
-            sectors = s.sectors;
-            high = s.high;
-            low = s.low;
-          };
+      contour = contour_of s.sent s.counter s.layer s.count s.sectors s.high s.low;
     }
 
 abbrev unsaid : Said → Result Reading (ReadRefusal Part)
@@ -101,23 +103,14 @@ unsaid_said (Ok r) = refl
 unsaid_said (Err e) = err_back e _
 
 pub said_one : (a b : Result Reading (ReadRefusal Part)) → said a ≡ said b → a ≡ b
-said_one a b h = sym (unsaid_said a) ∙ ap unsaid h ∙ unsaid_said b
+said_one = one_by said unsaid unsaid_said
 
 abbrev mixed_reading_of : MixedSaid → MixedReading
 mixed_reading_of s =
     record {
       upper = number_of s.upper;
       lower = number_of s.lower;
-      contour =
-          record {
-            sent = s.sent;
-            counter = s.counter;
-            layer = s.layer;
-            count = s.count;
-            sectors = s.sectors;
-            high = s.high;
-            low = s.low;
-          };
+      contour = contour_of s.sent s.counter s.layer s.count s.sectors s.high s.low;
       reflectors = s.reflectors;
       start = s.start;
       width = s.width;
@@ -131,7 +124,7 @@ mixed_unsaid_said (Ok r) = refl
 mixed_unsaid_said (Err e) = err_back e _
 
 pub mixed_said_one : (a b : Result MixedReading (ReadRefusal MixedPart)) → mixed_said a ≡ mixed_said b → a ≡ b
-mixed_said_one a b h = sym (mixed_unsaid_said a) ∙ ap mixed_unsaid h ∙ mixed_unsaid_said b
+mixed_said_one = one_by mixed_said mixed_unsaid mixed_unsaid_said
 
 -- what each reader answers
 pub some_reading : (ws : List ℕ) → (r : Result Reading (ReadRefusal Part)) × ReadSays ws r

@@ -71,7 +71,7 @@ module _ (mask base : ℕ) (ws : List ℕ) where
     module _ {count width len behind : ℕ} (is_count : count ≡ number_of points.word) (is_width : width ≡ point_width mask)
         (is_len : len ≡ count * width) (is_behind : behind ≡ skip_at len ws startdir.at) {tend enddir : Took}
         (is_tend : tend ≡ take_at (bit mask bits.tend) ws behind) (is_enddir : enddir ≡ take_at (bit mask bits.enddir) ws tend.at) where
-      abbrev walked : SectorReading
+      abbrev pub walked : SectorReading
       walked =
           record {
             number = number.word;
@@ -107,18 +107,5 @@ module _ (mask base : ℕ) (ws : List ℕ) where
       sector_cut h = sym (ap found_of (found ∙ past_out ws base walked enddir.at h))
 
       pub sector_whole : enddir.at ≤ length ws
-          → Some (
-            record {
-              number = number.word;
-              step = step.word;
-              points = points.word;
-              tstart = tstart.word;
-              startdir = startdir.word;
-              start = base + startdir.at;
-              len = len;
-              tend = tend.word;
-              enddir = enddir.word;
-            },
-            base + enddir.at,
-          ) ≡ found_of ((sector mask).parse base ws)
+          → Some (walked, base + enddir.at) ≡ found_of ((sector mask).parse base ws)
       sector_whole h = sym (ap found_of (found ∙ in_out ws base walked enddir.at h))
