@@ -11,7 +11,8 @@ use units::Angle;
 
 // The active sectors, in front of the others (rule 3.1).
 pub fn active_sectors(plan: &Plan) -> &[Sector]
-    ensures { result.now ≡ active_of plan.now }
+    ensures lends { result.now ≡ active_of plan.now }
+    ensures stands { result.ref_ptr ≡ plan.entry.ref_ptr }
 {
     let count = plan.sectors.iter().take_while(|s| s.function != 0).count();
     &plan.sectors[..count]

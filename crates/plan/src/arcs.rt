@@ -3,7 +3,7 @@ ghost use Rattle.std.specs.Prelude.{◌≡◌};
 ghost use Rattle.std.specs.Iterator.{YieldsFirst, item_count};
 ghost use Rattle.plan.specs.Sectors.{active_of};
 ghost use Rattle.plan.specs.Shots.{arc_of, arcs, arc_at};
-ghost use Rattle.plan.specs.ArcsLeft.{arcs_left};
+ghost use Rattle.plan.specs.ArcsLeft.{arcs_left, Begins};
 
 use crate::active::{active_sectors, last_stop};
 use crate::{Arc, ArcIter, Plan, Sector};
@@ -46,7 +46,8 @@ impl<'a> Iterator for ArcIter<'a> {
 
 // The arcs of a revolution: the last active stop is the one before sector 0 (rules 3.5 and 3.6).
 pub fn arcs_of(plan: &Plan, step: Angle) -> ArcIter<'_>
-    ensures { arcs_left result ≡ arcs step.0 (active_of plan.now) }
+    ensures gives { arcs_left result ≡ arcs step.0 (active_of plan.now) }
+    ensures begins { Begins plan.entry step result }
 {
     ArcIter {
         sectors: active_sectors(plan),

@@ -6,7 +6,7 @@ use Rattle.normal.proofs.normal.join.Goals.{then-i-sectors, then-i-sectors-via-t
 use Rattle.normal.proofs.normal.join.Goals.{then-i-sectors-via-else-i-sectors+then-s-sectors, else-i-sectors+else-s-sectors}
 
 pub loop-i-init : goal.loop-i-init
-loop-i-init c = starts c.args.plan.sectors _ _ c.active_sectors-sectors.ensures (search (long, rules)) (search rules)
+loop-i-init c = starts c.args.plan.sectors _ _ c.active_sectors-sectors.ensures.lends (search (long, rules)) (search rules)
 
 pub loop-i-preserved : goal.loop-i-preserved
 loop-i-preserved c =

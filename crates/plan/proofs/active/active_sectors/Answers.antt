@@ -5,8 +5,8 @@ use Rattle.std.proofs.lemmas.Iterator.Search.{YieldsList-from_take_while}
 use Rattle.plan.proofs.Actives.{in_use, counted}
 use Rattle.plan.proofs.active.active_sectors.Goals as goal
 
-pub returns : goal.returns
-returns c =
+pub returns-clause-lends : goal.returns-clause-lends
+returns-clause-lends c =
     counted _ _
     (count_from_yields_List c.take_while.result _ c.count-count.ensures.ran
     (YieldsList-from_take_while _ in_use (YieldsList-from_slice c.args.plan.now.sectors cc)

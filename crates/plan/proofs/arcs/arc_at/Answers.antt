@@ -10,5 +10,5 @@ pub returns : goal.returns
 unfolding arc_at
 returns c =
     at_place (arcs c.args.step.0 (active_of c.args.plan)) c.args.place c.nth.result
-    (nth_from_yields_List c.nth.result c.nth.new.self c.args.place c.nth.ensures.ran (YieldsList-from_first (λ a. a) arcs_left _ c.arcs_of.ensures))
+    (nth_from_yields_List c.nth.result c.nth.new.self c.args.place c.nth.ensures.ran (YieldsList-from_first (λ a. a) arcs_left _ c.arcs_of.ensures.gives))
     _ (search rules)

@@ -17,13 +17,13 @@ points a = a.points
 pub sum-requires-clause-fits : goal.sum-requires-clause-fits
 sum-requires-clause-fits c =
     fits_by_from_yields_list points (arcs c.args.step.0 (active_of c.args.plan)) _ _
-    (YieldsList-from_map _ points (YieldsList-at c.map.ensures.source (YieldsList-from_first (λ a. a) arcs_left _ c.arcs_of.ensures))
+    (YieldsList-from_map _ points (YieldsList-at c.map.ensures.source (YieldsList-from_first (λ a. a) arcs_left _ c.arcs_of.ensures.gives))
     c.map.ensures.closure (λ x r q k. search rules))
     (search (points_fit, long, rules))
 
 pub returns : goal.returns
 returns c =
     sum_by_from_yields_List points (arcs c.args.step.0 (active_of c.args.plan)) _ _ c.sum.ensures.ran
-    (YieldsList-from_map _ points (YieldsList-at c.map.ensures.source (YieldsList-from_first (λ a. a) arcs_left _ c.arcs_of.ensures))
+    (YieldsList-from_map _ points (YieldsList-at c.map.ensures.source (YieldsList-from_first (λ a. a) arcs_left _ c.arcs_of.ensures.gives))
     c.map.ensures.closure (λ x r q k. search rules))
     ∙ points_sum (arcs c.args.step.0 (active_of c.args.plan))
