@@ -7,6 +7,7 @@ pub mod AllShots
 pub mod Timed
 pub mod PointByPoint
 pub mod ProfileRows
+pub mod Alone
 -- The functions
 pub mod PointSums
 pub mod Laps

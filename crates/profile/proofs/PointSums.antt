@@ -10,7 +10,7 @@ use Rattle.std.specs.Prelude.{if◌then◌else◌, sum_by}
 use Rattle.std.proofs.lemmas.List.Sums.{sum_by-cons}
 use Rattle.units.specs.Directions.{circle, step_after}
 use Rattle.units.proofs.ShotCounts.{few}
-use Rattle.words.specs.Lists.{total}
+use Rattle.words.specs.Lists.{Each, none, this, total}
 use Rattle.plan.specs.declared.Sector.{Sector}
 use Rattle.plan.specs.declared.Plan.{Plan}
 use Rattle.plan.specs.declared.Arc.{Arc}
@@ -21,6 +21,12 @@ use Rattle.plan.proofs.ArcSums.{active_length}
 pub if_most : (b : Bool) (n : ℕ) → (if b then n else 0) ≤ n
 if_most true n = omega arith
 if_most false n = omega arith
+
+-- a sector has no more points than shots
+pub points_few : (step before shot : ℕ) (ss : List Sector) → Each (λ a. a.points ≤ a.shots) (arcs_from step before shot ss)
+points_few step before shot [] = none
+points_few step before shot (s ∷ ss) =
+    this (if_most (eqb s.function 3) (shots_of step before s)) (points_few step (stop_of s) (shot + shots_of step before s) ss)
 
 -- the chain of `plan_points`
 pub points_sum : (as' : List Arc) → sum_by (λ a. a.points) as' ≡ total (λ a. a.points) as'

@@ -4,49 +4,48 @@ use mathlib.Core.Bool.{Bool, true, false}
 use mathlib.Core.List.{List, ◌++◌, [], ◌∷◌}
 use Prim.Native.Nat.{ℕ, ◌+◌, ◌-◌, ◌*◌, ◌≤◌, ◌<◌}
 use native.Mathlib.Omega.{arith}
-use lib.ListN.{length, get_or, take, drop, length-drop, length-append, get_or-append}
+use lib.ListN.{length, get_or, drop, length-drop, length-append, get_or-append}
 use Rattle.std.proofs.lemmas.List.{get_or-drop, drop-drop}
 use lib.Seq.{drop-append_seam}
 use Rattle.std.specs.Prelude.{if◌then◌else◌, option_to_list}
 use Rattle.words.specs.Bits.{bit}
 use Rattle.words.specs.Words.{given_if}
 use Rattle.words.specs.Buffers.{Put, in_turn}
-use Rattle.words.proofs.Arrays.{from_here}
 use Rattle.words.proofs.Puts.{turn_fits, turn_put, turns_all}
 use Rattle.layout.specs.Bits as bits
 use Rattle.layout.specs.MixedMasks.{reflector_length}
 use Rattle.profile.specs.Points.{selected}
-use Rattle.profile.specs.Mixed.{dwords, reflector_words, reflectors_given, reflectors_of}
+use Rattle.profile.specs.Mixed.{reflector_words, reflectors_given, reflectors_of}
 use Rattle.profile.specs.Asked.{chosen}
 
 -- the words of one of a list
 abbrev pub one_of : ℕ → List ℕ → ℕ → List ℕ
 one_of mask l r = reflector_words mask l (r * reflector_length)
 
--- four words of a list are two numbers of two words each
-four_words : (l : List ℕ) (from : ℕ) → from + 3 < length l
-    → take 4 (drop from l) ≡ get_or l from 0 ∷ get_or l (from + 1) 0 ∷ get_or l (from + 2) 0 ∷ get_or l (from + 2 + 1) 0 ∷ []
-four_words l from h =
-    let e : from + 1 + 1 ≡ from + 2 = omega arith in
-    let four = from_here l (from + 2 + 1) 0 (omega arith) in
-    rw (from_here l from 0 (omega arith), from_here l (from + 1) 0 (omega arith), e, from_here l (from + 2) 0 (omega arith), four) refl
-
-two_numbers : (mask k : ℕ) (l : List ℕ) (from : ℕ) → from + 3 < length l → chosen mask k (take 4 (drop from l)) ≡ dwords mask k l from
-two_numbers mask k l from h =
-    rw (four_words l from h) (go (bit mask k) (get_or l from 0) (get_or l (from + 1) 0) (get_or l (from + 2) 0) (get_or l (from + 2 + 1) 0))
+-- four words are two numbers of two words each
+two_numbers : (mask k p q r s : ℕ) → chosen mask k (p ∷ q ∷ r ∷ s ∷ [])
+    ≡ selected mask k p ++ selected mask k q ++ (selected mask k r ++ selected mask k s)
+two_numbers mask k p q r s = go (bit mask k)
   where
-    go : (b : Bool) (p q r s : ℕ) → (if b then p ∷ q ∷ r ∷ s ∷ [] else [])
+    go : (b : Bool) → (if b then p ∷ q ∷ r ∷ s ∷ [] else [])
         ≡ option_to_list (given_if b p) ++ option_to_list (given_if b q) ++ (option_to_list (given_if b r) ++ option_to_list (given_if b s))
-    go true p q r s = refl
-    go false p q r s = refl
+    go true = refl
+    go false = refl
 
 -- the parts of the eleven words of one
-pub by_parts : (mask : ℕ) (l : List ℕ) → length l ≡ reflector_length
-    → chosen mask bits.cartesian (take 4 l) ++ chosen mask bits.polar (take 4 (drop 4 l)) ++ selected mask bits.time (get_or l 8 0)
+pub by_parts : (mask : ℕ) (l : List ℕ)
+    → chosen mask bits.cartesian (get_or l 0 0 ∷ get_or l 1 0 ∷ get_or l 2 0 ∷ get_or l 3 0 ∷ [])
+    ++ chosen mask bits.polar (get_or l 4 0 ∷ get_or l 5 0 ∷ get_or l 6 0 ∷ get_or l 7 0 ∷ [])
+    ++ selected mask bits.time (get_or l 8 0)
     ++ selected mask bits.mean_echo (get_or l 9 0)
     ++ selected mask bits.spots (get_or l 10 0)
     ≡ reflector_words mask l 0
-by_parts mask l e = rw (two_numbers mask bits.cartesian l 0 (omega arith), two_numbers mask bits.polar l 4 (omega arith)) refl
+by_parts mask l =
+    rw (
+      two_numbers mask bits.cartesian (get_or l 0 0) (get_or l 1 0) (get_or l 2 0) (get_or l 3 0),
+      two_numbers mask bits.polar (get_or l 4 0) (get_or l 5 0) (get_or l 6 0) (get_or l 7 0),
+    )
+    refl
 
 module _ (mask : ℕ) (l d₀ : List ℕ) (from : ℕ) (room : from + length (reflectors_of mask l) ≤ length d₀) where
   all_room : from + length (in_turn (one_of mask l) (reflectors_given l)) ≤ length d₀

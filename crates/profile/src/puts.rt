@@ -7,15 +7,19 @@ ghost use Rattle.profile.specs.Asked.{chosen};
 
 use words::has_bit;
 
-// Words at a place, one behind the other; the place behind them. Inlined, so that a few words of a known number are moved at once.
+// Words at a place, one behind the other; the place behind them. Inlined, so that a few words of a known number are moved at once: one by one,
+// since of a copy of slices the compiler does not know that they lie apart, and tests it at each.
 #[inline(always)]
 pub(crate) fn put_words(out: &mut [u16], at: usize, words: &[u16]) -> usize
     requires { at + length words.now ≤ length out.old }
     ensures { Put words.now out.old at out.new result }
 {
-    let end = at + words.len();
-    out[at..end].copy_from_slice(words);
-    end
+    let mut to = at;
+    for w in words {
+        out[to] = *w;
+        to += 1;
+    }
+    to
 }
 
 // Words at a place, where their bit of the mask is set; the place behind them.
@@ -30,8 +34,8 @@ pub(crate) fn put_chosen(out: &mut [u16], at: usize, mask: u32, k: u32, words: &
     at
 }
 
-// The word at a place, where its bit of the mask is set; the place behind it. Stays beside `put_chosen`: by that function, with a list of one
-// word, a profile takes two to three times as long.
+// The word at a place, where its bit of the mask is set; the place behind it. Stays beside `put_chosen`: by that function, when it copied slices, a
+// profile took two to three times as long with a list of one word.
 pub(crate) fn put_selected(out: &mut [u16], at: usize, mask: u32, k: u32, w: u16) -> usize
     requires { at + length (selected mask k w) ≤ length out.old }
     ensures { Put (selected mask k w) out.old at out.new result }

@@ -16,10 +16,12 @@ fn put_reflector(out: &mut [u16], at: usize, mask: u32, words: &[u16]) -> usize
     requires eleven { length words.now ≡ reflector_length }
     ensures { Put (reflector_words mask words.now 0) out.old at out.new result }
 {
+    let point = [words[0], words[1], words[2], words[3]];
+    let polar = [words[4], words[5], words[6], words[7]];
     let time = Time(words[8]);
     let echo = Echo(words[9]);
-    let a = put_chosen(out, at, mask, bits::CARTESIAN, &words[0..4]);
-    let b = put_chosen(out, a, mask, bits::POLAR, &words[4..8]);
+    let a = put_chosen(out, at, mask, bits::CARTESIAN, &point);
+    let b = put_chosen(out, a, mask, bits::POLAR, &polar);
     let c = put_selected(out, b, mask, bits::TIME, time.0);
     let d = put_selected(out, c, mask, bits::MEAN_ECHO, echo.0);
     put_selected(out, d, mask, bits::SPOTS, words[10])

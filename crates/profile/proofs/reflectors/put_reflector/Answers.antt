@@ -4,6 +4,6 @@ use Rattle.profile.proofs.reflectors.put_reflector.Goals as goal
 
 pub returns : goal.returns
 returns c =
-    let parts = by_parts c.args.mask _ c.requires.eleven in
+    let parts = by_parts c.args.mask c.args.words.now in
     let room = rw (← parts) at c.requires.room in
     rw (← parts) (search (put_5, room))
