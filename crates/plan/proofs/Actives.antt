@@ -1,17 +1,18 @@
 -- The active sectors as the front of the entries, and what the library's methods say of them.
-use mathlib.Core.Path.{◌≡◌, refl, ap, ◌∙◌}
+use mathlib.Core.Path.{◌≡◌, refl, sym, ap, ◌∙◌}
 use mathlib.Core.Bool.{Bool, true, false, not, ◌&&◌}
 use mathlib.Core.List.{List, [], ◌∷◌}
 use Prim.Native.Nat.{ℕ, zero, suc, ◌+◌, ◌-◌, ◌<◌}
 use native.Mathlib.Omega.{arith}
 use lib.Dec.{eqb, ltb}
-use lib.ListN.{length, get_or, take}
+use lib.ListN.{length, get_or, take, drop_of_length-le}
 use Rattle.std.specs.Prelude.{if◌then◌else◌, unwrap_or, slice_get}
 use Rattle.std.specs.Option.{option_map}
 use Rattle.std.specs.List.{prefix_len, take_while, list_all, IsAllAdjacentAnswer, AllAdjacentBelow}
 use Rattle.words.specs.Lists.{some, every}
 use Rattle.plan.specs.declared.Sector.{Sector}
-use Rattle.plan.specs.Sectors.{stop_of, active}
+use Rattle.words.proofs.Arrays.{from_here}
+use Rattle.plan.specs.Sectors.{unused, stop_of, active}
 use Rattle.plan.specs.Validity.{increases_from, increases}
 use Rattle.plan.specs.Shots.{last_stop}
 
@@ -47,6 +48,32 @@ every_is test (x ∷ xs) = ap (λ b. test x && b) (every_is test xs)
 
 pub every_of : {A : Type 0} (test : A → Bool) (xs : List A) (r : Bool) → r ≡ list_all test xs → r ≡ every test xs
 every_of test xs r e = e ∙ every_is test xs
+
+-- the eight entries of a plan, each by its place
+pub entries_named : (test : Sector → Bool) (l : List Sector) → length l ≡ 8
+    → every test
+    (get_or l 0 unused ∷ get_or l 1 unused ∷ get_or l 2 unused ∷ get_or l 3 unused ∷ get_or l 4 unused ∷ get_or l 5 unused ∷ get_or l 6 unused
+    ∷ get_or l 7 unused
+    ∷ [])
+    ≡ every test l
+entries_named test l e =
+    let named : l
+    ≡ get_or l 0 unused ∷ get_or l 1 unused ∷ get_or l 2 unused ∷ get_or l 3 unused ∷ get_or l 4 unused ∷ get_or l 5 unused ∷ get_or l 6 unused
+    ∷ get_or l 7 unused
+    ∷ [] =
+    from_here l 0 unused (omega arith)
+    ∙ rw (
+      from_here l 1 unused (omega arith),
+      from_here l 2 unused (omega arith),
+      from_here l 3 unused (omega arith),
+      from_here l 4 unused (omega arith),
+      from_here l 5 unused (omega arith),
+      from_here l 6 unused (omega arith),
+      from_here l 7 unused (omega arith),
+      drop_of_length-le l {i = 8} (omega arith),
+    )
+    refl in
+    ap (λ (x : List Sector). every test x) (sym named)
 
 -- `last`
 pub last_is : (before : ℕ) (ss : List Sector)

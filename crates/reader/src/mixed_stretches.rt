@@ -6,6 +6,7 @@ use crate::places::{check_place, points_at};
 use crate::{MixedPart, ReadRefusal};
 
 // Why the call below hands nothing back, on the same words and place (rule 5.23).
+#[tactic(auto, using(crate::proofs::MixedPoints::mixed_stretch_first, crate::proofs::MixedPoints::mixed_stretch_asked))]
 pub fn stretch_mixed_refusal(words: &[u16], place: usize) -> Result<(), ReadRefusal<MixedPart>>
     ensures { MixedStretchRefusalSays words.now place result }
 {

@@ -6,6 +6,7 @@ use crate::places::check_place;
 use crate::{MixedPart, ReadRefusal};
 
 // Why the call below hands nothing back, on the same words and place (rule 5.24).
+#[tactic(auto, using(crate::proofs::ReflectorPlaces::reflector_first, crate::proofs::ReflectorPlaces::reflector_asked))]
 pub fn reflector_refusal(words: &[u16], place: usize) -> Result<(), ReadRefusal<MixedPart>>
     ensures { ReflectorRefusalSays words.now place result }
 {

@@ -6,6 +6,7 @@ use crate::places::{check_place, points_at};
 use crate::{Part, ReadRefusal};
 
 // Why the call below hands nothing back, on the same words and place (rule 5.13).
+#[tactic(auto, using(crate::proofs::PointPlaces::stretch_first, crate::proofs::PointPlaces::stretch_asked))]
 pub fn stretch_refusal(words: &[u16], place: usize) -> Result<(), ReadRefusal<Part>>
     ensures { StretchRefusalSays words.now place result }
 {
