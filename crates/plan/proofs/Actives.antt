@@ -4,6 +4,7 @@ use mathlib.Core.Bool.{Bool, true, false, not, ◌&&◌}
 use mathlib.Core.List.{List, [], ◌∷◌}
 use Prim.Native.Nat.{ℕ, zero, suc, ◌+◌, ◌-◌, ◌<◌}
 use native.Mathlib.Omega.{arith}
+use borrow.Rule.Slice.PartMut.{mid_of}
 use lib.Dec.{eqb, ltb}
 use lib.ListN.{length, get_or, take, drop_of_length-le}
 use Rattle.std.specs.Prelude.{if◌then◌else◌, unwrap_or, slice_get}
@@ -48,6 +49,10 @@ every_is test (x ∷ xs) = ap (λ b. test x && b) (every_is test xs)
 
 pub every_of : {A : Type 0} (test : A → Bool) (xs : List A) (r : Bool) → r ≡ list_all test xs → r ≡ every test xs
 every_of test xs r e = e ∙ every_is test xs
+
+-- entries from the front on, by their number or by both places
+pub from_front : (n : ℕ) (l : List Sector) → mid_of 0 (n - 0) l ≡ take n l
+from_front n l = let e : n - 0 ≡ n = omega arith in rw e refl
 
 -- the eight entries of a plan, each by its place
 pub entries_named : (test : Sector → Bool) (l : List Sector) → length l ≡ 8

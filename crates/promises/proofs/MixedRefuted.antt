@@ -33,6 +33,7 @@ mixed_slips =
       count_behind = λ r after h e. omega (arith, ap (behind_head 0) h.buffer, ap (word_at 0) e);
       senstat_behind = λ r after h e. omega (arith, ap (behind_head 0) h.buffer, ap (word_at 0) e);
       field_by_field = λ r after h e. omega (arith, ap (behind_head 2) h.buffer, ap (word_at 2) e);
+      ten_words_apart = λ r after h e. omega (arith, ap (behind_head 2) h.buffer, ap (word_at 2) e);
       untested_with_plain = λ r after h e. omega (arith, e, said_is with_plain r, ap (λ (x : Handed). x.refusal) h.reply);
       untested_without = λ r after h e. omega (arith, e, said_is with_none r, ap (λ (x : Handed). x.refusal) h.reply);
     }

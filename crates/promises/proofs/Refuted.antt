@@ -22,10 +22,11 @@ use Rattle.profile.specs.Profiles.{points_of}
 use Rattle.profile.specs.Revolutions.{revolved, revolution_refusal, revolution_of}
 use Rattle.reader.specs.Readings.{head_refusal, body_of, read_of}
 use Rattle.reader.specs.Stretches.{stretch_refusal_of, stretch_start}
+use Rattle.sensor.specs.Requests.{request_refusal, request_of}
 use Rattle.dialogue.specs.declared.Said.{Said}
 use Rattle.dialogue.specs.Records.{record_of, record_words}
 use Rattle.dialogue.specs.Lines.{digits, stripped, decimal, spaced_hex, line_of, fitting}
-use Rattle.dialogue.specs.Talks.{size_of, line_at}
+use Rattle.dialogue.specs.Talks.{size_of, line_for, line_at}
 use Rattle.promises.specs.WrongAnswers.{WrongAnswers}
 
 abbrev first_stop : Plan → ℕ
@@ -37,7 +38,7 @@ is_taken b = if b then 1 else 0
 pub wrong_answers : WrongAnswers
 unfolding over in_turn is_step entry_in_range plan_in_range lit_shots measure_error mask_ok config_ok in_range delivered revolved
     revolution_refusal revolution_of head_refusal body_of read_of stretch_refusal_of record_of record_words digits stripped decimal
-    spaced_hex line_of fitting line_at plan_refusal normalised_of points_of point_words stretch_start
+    spaced_hex line_of fitting line_for line_at request_refusal request_of plan_refusal normalised_of points_of point_words stretch_start
 wrong_answers =
     record {
       product_cut = λ e. omega (arith, e);
@@ -65,4 +66,5 @@ wrong_answers =
       small_digits = λ before eleven h. omega (arith, ap (λ (l : List ℕ). get_or l 6 0) (rw eleven at h.text));
       line_cut = λ h. omega (arith, ap (λ (o : Option ℕ). is_taken (is_some o)) h.said);
       cut_record_taken = λ s text h. omega (arith, ap (λ (o : Option Said). is_taken (is_some o)) h.said);
+      byte_without_room = λ h. omega (arith, ap (λ (o : Option Said). is_taken (is_some o)) h.said);
     }

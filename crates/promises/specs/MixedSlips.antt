@@ -41,6 +41,8 @@ pub record MixedSlips : Type 0 where
   pub senstat_behind : (r : Result Reply Refusal) (after : List ℕ) → Mixed 0x0001 0x2000 7 after r → drop 4 after ≡ 2 ∷ 0 ∷ 3 ∷ [] → ⊥
   -- both times, then both mean echoes: 2, 7, 8, 9, 10 is right
   pub field_by_field : (r : Result Reply Refusal) (after : List ℕ) → Mixed 0x0031 0 9 after r → drop 4 after ≡ 2 ∷ 7 ∷ 9 ∷ 8 ∷ 10 ∷ [] → ⊥
+  -- each reflector taken ten words behind the one before, so that the second's time is the word in front of it: 2, 7, 9 is right
+  pub ten_words_apart : (r : Result Reply Refusal) (after : List ℕ) → Mixed 0x0011 0 7 after r → drop 4 after ≡ 2 ∷ 7 ∷ 0 ∷ [] → ⊥
   -- reflectors tested with a mixed job alone: a list of ten words taken with a plain job, and without a job
   pub untested_with_plain :
       (r : Result Reply Refusal) (after : List ℕ) → RevolutionSays with_plain (shots_with (replicate 10 0)) (replicate 4 0) after r → said r ≡ 0 → ⊥

@@ -110,3 +110,5 @@ pub record WrongAnswers : Type 0 where
   pub cut_record_taken :
       (s : State) (text : List ℕ) → AnswerSays s 1 (1 ∷ 1 ∷ []) text text (Some (record { state = s; taken = 2; length = 0 }))
       → ⊥
+  -- and a byte of a record, one without a word, whose line has no room
+  pub byte_without_room : AnswerSays fresh_state 1 (0 ∷ []) [] [] (Some (record { state = fresh_state; taken = 1; length = 0 })) → ⊥
